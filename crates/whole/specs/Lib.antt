@@ -1,0 +1,4 @@
+pub mod Whole
+pub mod Range
+pub mod Pick
+pub mod Bytes
