@@ -19,7 +19,7 @@ use Rattle.circuit.specs.FinalLaws.{rounds-few, full-from, demand3-from,
 use Rattle.circuit.specs.BudgetLaws.{plain-share, even-share, share-is, share-most, start-is, budget-is, budget-late, late-or-in-time}
 
 -- share t, k rounds and increments l are those of mode m
-pub record Says (m : ℕ) (n : Netlist) (b : List ℤ) (t k : ℕ) (l : List ℕ) : Type 0 where
+pub record OfMode (m : ℕ) (n : Netlist) (b : List ℤ) (t k : ℕ) (l : List ℕ) : Type 0 where
   pub in-time : InTime (circuitOf n) (at b)
   pub share : t ≡ shareIn m n b
   pub rounds : k ≡ roundsFrom n (startIn m n b)
@@ -57,14 +57,14 @@ module _ {n : Netlist} (q : Accepted n) {b : List ℤ} (g : Based n b) (m : ℕ)
       by (inr safe) = let u = budget-is k g safe m in let z : _≡_ {A = ℕ} 0 1 = cc in omega arith
 
   -- a budget is the mode's share, rounds and increments, and the base delays are in time
-  pub budget-says : {t r : ℕ} {l : List ℕ} → budgetOf m n b ≡ Budgeted t r l → Says m n b t r l
+  pub budget-says : {t r : ℕ} {l : List ℕ} → budgetOf m n b ≡ Budgeted t r l → OfMode m n b t r l
   budget-says {t} {r} {l} e = by (late-or-in-time k g)
     where
-      by : (lowestLate n b < parts n) ⊎ InTime (circuitOf n) (at b) → Says m n b t r l
+      by : (lowestLate n b < parts n) ⊎ InTime (circuitOf n) (at b) → OfMode m n b t r l
       by (inl h) = let u = budget-late k g m h .0 in absurd (let z : _≡_ {A = ℕ} 0 1 = cc in omega arith)
       by (inr safe) = let u = budget-is k g safe m in record { in-time = safe; share = cc; rounds = cc; increments = cc }
 
-  module _ {t r : ℕ} {l : List ℕ} (s : Says m n b t r l) where
+  module _ {t r : ℕ} {l : List ℕ} (s : OfMode m n b t r l) where
     -- "it is at most the number of non-inputs" (01, "Share and rounds")
     pub rounds-most : r ≤ limit n
     rounds-most = rw (s .rounds) (rounds-few k (start-is k g (s .in-time) m .safe))

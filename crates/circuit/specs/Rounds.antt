@@ -21,7 +21,6 @@ beats sv a r x b = marked sv x && (ltZ (pos 0) (slackAt a r x) && (eqb b (length
 
 -- the choice among the numbers below n
 unfoldable pub choiceOf : List ℕ → List ℤ → List ℤ → ℕ → ℕ
-unfolding beats
 choiceOf sv a r zero = length sv
 choiceOf sv a r (suc n) = cond (beats sv a r n (choiceOf sv a r n)) n (choiceOf sv a r n)
 
@@ -29,28 +28,23 @@ choiceOf sv a r (suc n) = cond (beats sv a r n (choiceOf sv a r n)) n (choiceOf 
 
 -- an equality on the wire from f to t, of arrivals or of required times z
 unfoldable pub level : List ℤ → List ℤ → ℕ → ℕ → Bool
-unfolding eqZ
 level d z f t = eqZ (at z t) (at z f +ℤ at d t)
 
 -- "Walk forward: from the last component a, take the lowest-numbered fan-out b with required(b) = required(a) + delay(b) and arrival(b) =
 -- arrival(a) + delay(b).": connection j leads on from x. Connections rise by their targets, so the first that does has the lowest.
 unfoldable pub leads : Netlist → List ℤ → List ℤ → List ℤ → ℕ → ℕ → Bool
-unfolding level
 leads n d a r x j = eqb (from n j) x && (level d r (from n j) (to n j) && level d a (from n j) (to n j))
 
 unfoldable pub after : Netlist → List ℤ → List ℤ → List ℤ → ℕ → ℕ
-unfolding firstOf upFrom leads
 after n d a r x = firstOf (leads n d a r x) (to n) (upFrom 0 (wires n)) (parts n)
 
 -- "Walk backward: from the first component a, take the lowest-numbered non-input fan-in b with required(b) = required(a) − delay(a) and
 -- arrival(b) = arrival(a) − delay(a).": connection j comes to x from a served component, and the two equalities are those of its wire.
 -- Connections into one component rise by their sources, so the first that does has the lowest.
 unfoldable pub feeds : Netlist → List ℕ → List ℤ → List ℤ → List ℤ → ℕ → ℕ → Bool
-unfolding level
 feeds n sv d a r x j = eqb (to n j) x && (marked sv (from n j) && (level d r (from n j) (to n j) && level d a (from n j) (to n j)))
 
 unfoldable pub before : Netlist → List ℕ → List ℤ → List ℤ → List ℤ → ℕ → ℕ
-unfolding firstOf upFrom feeds
 before n sv d a r x = firstOf (feeds n sv d a r x) (from n) (upFrom 0 (wires n)) (parts n)
 
 -- ---- the walks and the segment
@@ -66,7 +60,6 @@ behind go n (suc k) x l = cond (ltb (go x) n) (behind go n k (go x) (go x ∷ l)
 
 -- the segment of x, first to last: as many steps each way as there are components suffice
 unfoldable pub segmentOf : Netlist → List ℕ → List ℤ → List ℤ → List ℤ → ℕ → List ℕ
-unfolding ahead behind after before
 segmentOf n sv d a r x = behind (before n sv d a r) (parts n) (parts n) x (x ∷ ahead (after n d a r) (parts n) (parts n) x)
 
 -- ---- the delivery
@@ -80,33 +73,27 @@ deliver s (x ∷ xs) d = deliver (s - s / suc (length xs)) xs (set d x (at d x +
 
 -- x's slack shared out over x's segment
 unfoldable pub given : Netlist → List ℕ → List ℤ → List ℤ → List ℤ → ℕ → List ℤ
-unfolding deliver segmentOf
 given n sv d a r x = deliver (up (slackAt a r x)) (segmentOf n sv d a r x) d
 
 unfoldable pub chosen : Netlist → List ℕ → List ℤ → ℕ
-unfolding choiceOf arrivals requireds
 chosen n sv d = choiceOf sv (arrivals n d) (requireds n d) (parts n)
 
 unfoldable pub roundOf : Netlist → List ℕ → List ℤ → List ℤ
-unfolding given chosen arrivals requireds
 roundOf n sv d = given n sv d (arrivals n d) (requireds n d) (chosen n sv d)
 
 -- ---- the run
 
 -- a served component has positive slack, so that there is a round to do
 unfoldable pub moves : Netlist → List ℕ → List ℤ → Bool
-unfolding chosen
 moves n sv d = ltb (chosen n sv d) (parts n)
 
 -- "Work the times out again; stop when no non-input has positive slack." At most k rounds from the delays d: "The number of rounds is counted
 -- and returned", and the delays that they leave.
 unfoldable pub rounds : Netlist → List ℕ → ℕ → List ℤ → ℕ
-unfolding moves roundOf
 rounds n sv zero d = 0
 rounds n sv (suc k) d = cond (moves n sv d) (suc (rounds n sv k (roundOf n sv d))) 0
 
 unfoldable pub settled : Netlist → List ℕ → ℕ → List ℤ → List ℤ
-unfolding moves roundOf
 settled n sv zero d = d
 settled n sv (suc k) d = cond (moves n sv d) (settled n sv k (roundOf n sv d)) d
 
@@ -115,5 +102,4 @@ unfoldable pub positive : List ℕ → List ℤ → List ℤ → ℕ → Bool
 positive sv a r x = marked sv x && ltZ (pos 0) (slackAt a r x)
 
 unfoldable pub lowestPositive : Netlist → List ℕ → List ℤ → ℕ
-unfolding lowest firstOf upFrom positive arrivals requireds
 lowestPositive n sv d = lowest (positive sv (arrivals n d) (requireds n d)) (parts n)

@@ -4,13 +4,15 @@ use mathlib.Core.Bool.{Bool, true, false, _&&_}
 use mathlib.Core.List.{List, [], _∷_, List·Memᴰ, List·Memᴰ·head, List·Memᴰ·tail}
 use borrow.Author.Tests.{eqb-true}
 use lib.Dec.{eqb}
-use Rattle.whole.specs.Whole.{eqZ, eq-is}
+use Rattle.whole.specs.Whole.{eqZ, eq-is, maxZ, minZ}
 use Rattle.whole.specs.Pick.{if?}
 use Rattle.circuit.specs.ListLaws.{clash, both}
 use Rattle.circuit.specs.Netlist.{servedOf}
-use Rattle.circuit.specs.Times.{arrivals, requireds, slacks}
-use Rattle.circuit.specs.Rounds.{segmentOf}
-use Rattle.circuit.specs.Budget.{Outcome, LateAt, StalledAt, Budgeted, budgetOf, finalFrom, startIn}
+use Rattle.circuit.specs.Lists.{upFrom, tabulate, firstOf, lowest, count}
+use Rattle.circuit.specs.Times.{step, sweep, order, anchor, arrivals, requireds, slacks, overdue, inTime, late, lowestLate}
+use Rattle.circuit.specs.Share.{lifted, descend, shareOf}
+use Rattle.circuit.specs.Rounds.{beats, choiceOf, level, leads, after, feeds, before, ahead, behind, segmentOf, deliver, given, chosen, roundOf, moves, rounds, settled, positive, lowestPositive}
+use Rattle.circuit.specs.Budget.{Outcome, LateAt, StalledAt, Budgeted, shareIn, startIn, finalFrom, roundsFrom, increments, budgetOf}
 use Rattle.circuit.specs.Table.{Row, Analysed, Outcomes, Keeps, Walks, Says, table, walked, lemma5}
 
 -- two lists have the same elements by `eq`
@@ -33,7 +35,7 @@ sameOutcome (Budgeted s i l) (StalledAt y) = false
 sameOutcome (Budgeted s i l) (Budgeted t j m) = eqb s t && (eqb i j && sameBy eqb l m)
 
 unfoldable pub holds : Row → Bool
-unfolding sameBy sameOutcome eqZ slacks if? budgetOf finalFrom startIn segmentOf
+unfolding sameBy sameOutcome eqZ maxZ minZ if? upFrom tabulate firstOf lowest count step sweep order anchor arrivals requireds slacks overdue inTime late lowestLate lifted descend shareOf beats choiceOf level leads after feeds before ahead behind segmentOf deliver given chosen roundOf moves rounds settled positive lowestPositive shareIn startIn finalFrom roundsFrom increments budgetOf
 holds (Analysed w l) = sameBy eqZ (slacks (w .net) (w .base)) l
 holds (Outcomes m w o) = sameOutcome (budgetOf m (w .net) (w .base)) o
 holds (Keeps m w l) = sameBy eqZ (slacks (w .net) (finalFrom (w .net) (startIn m (w .net) (w .base)))) l
@@ -88,7 +90,7 @@ unfolding allHold
 walked-holds = refl
 
 pub lemma5-holds : allHold lemma5 ≡ true
-unfolding allHold arrivals requireds
+unfolding allHold arrivals requireds step sweep order anchor tabulate upFrom maxZ minZ
 lemma5-holds = refl
 
 -- every row of the table says what is so

@@ -9,7 +9,7 @@ use lib.IntN.{ℤ, pos, negsuc, _+ℤ_, _-ℤ_}
 use lib.Signed.{ltZ}
 use lib.ListN.{getD, set}
 use Rattle.whole.specs.Whole.{maxZ, minZ}
-use Rattle.circuit.specs.Lists.{at, upFrom, tabulate, firstOf, lowest}
+use Rattle.circuit.specs.Lists.{at, upFrom, tabulate, lowest}
 use Rattle.circuit.specs.Netlist.{Netlist, parts, wires, kind, from, to, Judged}
 
 -- ---- a sweep
@@ -34,7 +34,6 @@ sweep v (j ∷ w) a = sweep v w (step v j a)
 
 -- the order in which they are gone through: as they stand
 unfoldable pub order : Netlist → List ℕ
-unfolding upFrom
 order n = upFrom 0 (wires n)
 
 -- all that is asked of an order: no connection into a component comes after one out of it, nor is the same one
@@ -83,11 +82,9 @@ abbrev pub backward : List ℕ → List ℕ → List ℤ → Way
 backward fs ts d = record { src = λ j. getD ts j 0; tgt = λ j. getD fs j 0; go = λ j z. z -ℤ at d (getD ts j 0); pick = minZ }
 
 unfoldable pub arrivals : Netlist → List ℤ → List ℤ
-unfolding sweep step order tabulate anchor maxZ
 arrivals n d = sweep (forward (n .froms) (n .tos) d) (order n) (tabulate (starts n) (parts n))
 
 unfoldable pub requireds : Netlist → List ℤ → List ℤ
-unfolding sweep step order tabulate anchor minZ
 requireds n d = sweep (backward (n .froms) (n .tos) d) (reverse (order n)) (tabulate (ends n) (parts n))
 
 -- ---- slacks, in time, late
@@ -97,7 +94,6 @@ abbrev pub slackAt : List ℤ → List ℤ → ℕ → ℤ
 slackAt a r x = at r x -ℤ at a x
 
 unfoldable pub slacks : Netlist → List ℤ → List ℤ
-unfolding tabulate arrivals requireds
 slacks n d = tabulate (slackAt (arrivals n d) (requireds n d)) (parts n)
 
 -- x is an output that signals reach after its time
@@ -106,7 +102,6 @@ overdue n a x = eqb (kind n x) 2 && ltZ (at (n .times) x) (at a x)
 
 -- no output is: "The circuit is in time when no path slack is negative" is a law about it
 unfoldable pub inTime : Netlist → List ℤ → Bool
-unfolding lowest firstOf upFrom overdue arrivals
 inTime n d = eqb (lowest (overdue n (arrivals n d)) (parts n)) (parts n)
 
 -- LATE: "an output has negative slack at base delays", "lowest such output" (01, "Refusal numbers"); the component count where there is none
@@ -114,5 +109,4 @@ unfoldable pub late : Netlist → List ℤ → List ℤ → ℕ → Bool
 late n a r x = eqb (kind n x) 2 && ltZ (slackAt a r x) (pos 0)
 
 unfoldable pub lowestLate : Netlist → List ℤ → ℕ
-unfolding lowest firstOf upFrom late arrivals requireds
 lowestLate n d = lowest (late n (arrivals n d) (requireds n d)) (parts n)
