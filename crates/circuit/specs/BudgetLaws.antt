@@ -17,7 +17,7 @@ use Rattle.whole.specs.Range.{Within, Bounded}
 use Rattle.whole.specs.Pick.{if-yes, if-no}
 use Rattle.circuit.specs.Circuit.{InTime, Timed, Share, lift}
 use Rattle.circuit.specs.Lists.{at}
-use Rattle.circuit.specs.Netlist.{Netlist, parts, circuitOf, servedOf, marked, serves, Based}
+use Rattle.circuit.specs.Netlist.{Netlist, parts, circuitOf, servedOf, serves, Based}
 use Rattle.circuit.specs.Times.{arrivals, requireds, lowestLate}
 use Rattle.circuit.specs.Share.{lifted, shareOf}
 use Rattle.circuit.specs.Budget.{shareIn, startIn, finalFrom, roundsFrom, increments, LateAt, Budgeted, budgetOf}
@@ -26,7 +26,7 @@ use Rattle.circuit.specs.ShareLaws.{lift-least, lift-more, lift-at, shar
 use Rattle.circuit.specs.ServedLaws.{length-served, serves-is, serves-no, serves-part, some-served}
 use Rattle.circuit.specs.LateLaws.{FirstLate, late-le, late-is, in-time-is, in-time-holds, late-none-is, late-none-holds}
 use Rattle.circuit.specs.ClockLaws.{Clock}
-use Rattle.circuit.specs.SafeLaws.{Safe, safe-timed, slack-range}
+use Rattle.circuit.specs.SafeLaws.{Safe, safe-timed, slack-range, based-bounded}
 use Rattle.circuit.specs.DescentLaws.{length-lifted, lifted-at, lifted-is, Tells, share-found}
 use Rattle.circuit.specs.FinalLaws.{Start, never-stalled}
 
@@ -42,23 +42,27 @@ module _ {m : ℕ} (n : Netlist) (b : List ℤ) where
   unfolding shareIn
   even-share e = rw (ne-eqb m 0 e)
 
-module _ {n : Netlist} (k : Clock n) {b : List ℤ} (g : Based n b) where
-  abbrev sv : List ℕ
-  sv = servedOf (n .kinds)
-
-  marks : length sv ≡ length b
-  marks = length-served (n .kinds) ∙ sym (g .all)
+module _ {n : Netlist} {b : List ℤ} (g : Based n b) where
+  pub marks-all : length (servedOf (n .kinds)) ≡ length b
+  marks-all = length-served (n .kinds) ∙ sym (g .all)
 
   -- base delays with less than 2^28 more can be timed
-  lifted-bounded : (u : ℕ) → u < 2 ^ 28 → Bounded (2 ^ 29) (lifted sv u b)
-  lifted-bounded u h = record { at = λ x. rw (lifted-at sv u b marks x) (by x (marked sv x)) }
+  pub lifted-bounded : (u : ℕ) → u < 2 ^ 28 → Bounded (2 ^ 29) (lifted (servedOf (n .kinds)) u b)
+  lifted-bounded u h = record { at = λ x. rw (lifted-at (servedOf (n .kinds)) u b marks-all x) (by x (serves n x)) }
     where
       by : (x : ℕ) (c : Bool) → Within (2 ^ 29) (at b x +ℤ pos (cond c u 0))
       by x true = let low = g .least x in let high = g .most x in let e = sum (at b x) (pos u) in record { upper = omega whole; lower = omega whole }
       by x false = let low = g .least x in let high = g .most x in let e = sum (at b x) (pos 0) in record { upper = omega whole; lower = omega whole }
 
+module _ {n : Netlist} (k : Clock n) {b : List ℤ} (g : Based n b) where
+  abbrev sv : List ℕ
+  sv = servedOf (n .kinds)
+
+  abbrev marks : length sv ≡ length b
+  marks = marks-all g
+
   lifted-timed : (u : ℕ) → u < 2 ^ 28 → Timed (circuitOf n) (at (lifted sv u b)) (at (arrivals n (lifted sv u b))) (at (requireds n (lifted sv u b)))
-  lifted-timed u h = k .timed (lifted sv u b) (lifted-bounded u h)
+  lifted-timed u h = k .timed (lifted sv u b) (lifted-bounded g u h)
 
   tells : (u : ℕ) → u < 2 ^ 28 → Tells n sv b u
   tells u h = record {
@@ -118,13 +122,10 @@ module _ {n : Netlist} (k : Clock n) {b : List ℤ} (g : Based n b) where
         let e = late-none-holds n b (safe-timed k based-safe) (k .ranked) safe in
         sym (if-no _ _ (omega arith) (if-no _ _ (never-stalled k g (start-is m)) refl))
 
-  base-bounded : Bounded (2 ^ 29) b
-  base-bounded = record { at = λ x. let low = g .least x in let high = g .most x in record { upper = omega whole; lower = omega whole } }
-
   -- a path is late, and the budget names the lowest late output
   pub budget-late : (m : ℕ) → lowestLate n b < parts n → (budgetOf m n b ≡ LateAt (lowestLate n b)) × FirstLate n b (lowestLate n b)
   unfolding budgetOf
-  budget-late m h = (sym (if-yes _ _ h refl), late-is n b (k .timed b base-bounded) (k .ranked) h)
+  budget-late m h = (sym (if-yes _ _ h refl), late-is n b (k .timed b (based-bounded g)) (k .ranked) h)
 
   -- one of the two holds
   pub late-or-in-time : (lowestLate n b < parts n) ⊎ InTime (circuitOf n) (at b)
@@ -132,4 +133,4 @@ module _ {n : Netlist} (k : Clock n) {b : List ℤ} (g : Based n b) where
     where
       by : (u : Bool) → ltb (lowestLate n b) (parts n) ≡ u → (lowestLate n b < parts n) ⊎ InTime (circuitOf n) (at b)
       by true e = inl (ltb-true (lowestLate n b) (parts n) e)
-      by false e = inr (late-none-is n b (k .timed b base-bounded) (omega (arith, ltb-false (lowestLate n b) (parts n) e, late-le n b)))
+      by false e = inr (late-none-is n b (k .timed b (based-bounded g)) (omega (arith, ltb-false (lowestLate n b) (parts n) e, late-le n b)))

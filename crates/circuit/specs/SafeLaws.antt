@@ -27,6 +27,14 @@ pub record Safe (n : Netlist) (d : List ℤ) : Type 0 where
   pub quiet : (x : ℕ) → kind n x ≡ 0 → at d x ≡ pos 0
   pub safe : InTime (circuitOf n) (at d)
 
+-- where analysed slack lies
+pub record Analysed (z : ℤ) : Type 0 where
+  pub lowest : negsuc 267042304 ≤ℤ z
+  pub highest : z ≤ℤ pos 200000000
+
+pub based-bounded : {n : Netlist} {b : List ℤ} → Based n b → Bounded (2 ^ 29) b
+based-bounded g = record { at = λ x. let low = g .least x in let high = g .most x in record { upper = omega whole; lower = omega whole } }
+
 nothing : Bounded (2 ^ 29) []
 nothing = record { at = λ k. record { upper = omega arith; lower = omega arith } }
 
@@ -67,29 +75,30 @@ module _ {n : Netlist} (k : Clock n) where
     pub safe-timed : Timed (circuitOf n) (at d) (at (arrivals n d)) (at (requireds n d))
     safe-timed = k .timed d (bounded-more (omega arith) safe-bounded)
 
-  -- Analysed slack lies from −267,042,305 to 200,000,000: a path has at most 1,023 non-inputs of 65,535 ps each.
-  pub record Analysed (z : ℤ) : Type 0 where
-    pub lowest : negsuc 267042304 ≤ℤ z
-    pub highest : z ≤ℤ pos 200000000
+  module _ (d : List ℤ) (t : Timed (circuitOf n) (at d) (at (arrivals n d)) (at (requireds n d))) (least : (x : ℕ) → pos 0 ≤ℤ at d x) where
+    -- no slack is above 200,000,000
+    pub slack-most : (x : ℕ) → x < parts n → slackAt (arrivals n d) (requireds n d) x ≤ℤ pos 200000000
+    unfolding into begin
+    slack-most x h =
+        let (p, has, e) = lemma2 t (k .ranked) h in
+        let early = k .judged .times-in .at (origin (p .way)) in
+        let late = k .judged .times-in .at (p .last) in
+        omega (whole, e, reach-least (circuitOf n) (at d) (λ v y m. least y) (p .way), diff (at (n .times) (p .last)) (reach (circuitOf n) (at d) (p .way)))
 
+  -- Analysed slack lies from −267,042,305 to 200,000,000: a path has at most 1,023 non-inputs of 65,535 ps each.
   pub slack-range : {b : List ℤ} → Based n b → (x : ℕ) → x < parts n → Analysed (slackAt (arrivals n b) (requireds n b) x)
   unfolding into begin
   slack-range {b} g x h =
-      let bounded : Bounded (2 ^ 29) b = record { at = λ y. let low = g .least y in let high = g .most y in record { upper = omega whole; lower = omega whole } } in
-      let (p, on-it, e) = lemma2 (k .timed b bounded) (k .ranked) h in
+      let t = k .timed b (based-bounded g) in
+      let (p, has, e) = lemma2 t (k .ranked) h in
       let u = reach (circuitOf n) (at b) (p .way) in
       let z = at (n .times) (p .last) in
-      let first = k .judged .times-in .at (origin (p .way)) in
-      let final = k .judged .times-in .at (p .last) in
+      let late = k .judged .times-in .at (p .last) in
       let long = reach-most (circuitOf n) (at b) (k .ranked) (pos 100000000) 65535 (λ y m. starts-by y) (λ v y m. g .most y) (p .way) in
-      let short = reach-least (circuitOf n) (at b) (λ v y m. g .least y) (p .way) in
       let rank = k .ranked .below (p .ends .0) in
       let few = k .judged .few in
       let low = k .low in
-      record {
-        lowest = omega (whole, e, diff z u, sum (pos 100000000) (pos (65535 * k .ranked .rank (p .last))));
-        highest = omega (whole, e, diff z u);
-      }
+      record { lowest = omega (whole, e, diff z u, sum (pos 100000000) (pos (65535 * k .ranked .rank (p .last)))); highest = slack-most b t (g .least) x h }
     where
       starts-by : (y : ℕ) → at (n .times) y ≤ℤ pos 100000000
       starts-by y = let within = k .judged .times-in .at y in omega whole
