@@ -36,7 +36,7 @@ pub record Start (n : Netlist) (b : List ℤ) (t : ℕ) (d : List ℤ) : Type 0 
 module _ {n : Netlist} (k : Clock n) where
   module _ {d : List ℤ} (s : Safe n d) where
     -- at most the served have positive slack
-    positives-few : positives n d ≤ limit n
+    pub positives-few : positives n d ≤ limit n
     positives-few = count-mono (positive (servedOf (n .kinds)) (arrivals n d) (requireds n d)) (serves n) (parts n) (λ x h p. positive-is (servedOf (n .kinds)) (arrivals n d) (requireds n d) x p .0)
 
     -- as many rounds as there are served components leave none of them with positive slack

@@ -1,0 +1,7 @@
+pub mod Fill
+pub mod Marks
+pub mod Sharing
+pub mod Round
+pub mod Run
+pub mod End
+pub mod EndLaws

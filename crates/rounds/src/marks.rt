@@ -1,0 +1,65 @@
+// The marks of the served, and delays with a share for each of them.
+ghost use mathlib.Core.Path.{_≡_};
+ghost use mathlib.Core.Bool.{cond};
+ghost use Prim.Native.Nat.{_<_, _^_};
+ghost use lib.Dec.{eqb};
+ghost use lib.IntN.{pos, _+ℤ_};
+ghost use lib.ListN.{length};
+ghost use Rattle.whole.specs.Range.{Bounded};
+ghost use Rattle.circuit.specs.Lists.{at, count};
+ghost use Rattle.circuit.specs.Netlist.{mark, servedOf, marked};
+ghost use Rattle.circuit.specs.Share.{lifted};
+
+fn mark_of(kind: u8) -> u8
+    ensures { λ r. ⌜ r ≡ mark kind ⌝ }
+{
+    if kind == 0 { 0 } else { 1 }
+}
+
+pub fn fill_served(served: &mut [u8], kinds: &[u8])
+    requires { ⌜ length (now served) ≡ length (now kinds) ⌝ }
+    ensures { λ _. ⌜ now (served .exit) ≡ servedOf (now (kinds .entry)) ⌝ }
+{
+    let mut i = 0;
+    while i < kinds.len() {
+        served[i] = mark_of(kinds[i]);
+        i += 1;
+    }
+}
+
+// t for one who is served, nothing for another.
+fn due(m: u8, t: u32) -> u32
+    ensures { λ r. ⌜ r ≡ cond (eqb m 1) t 0 ⌝ }
+{
+    if m == 1 { t } else { 0 }
+}
+
+pub fn count_served(served: &[u8]) -> usize
+    ensures { λ r. ⌜ r ≡ count (marked (now (served .entry))) (length (now (served .entry))) ⌝ }
+{
+    let mut n = 0;
+    let mut i = 0;
+    while i < served.len() {
+        n += due(served[i], 1) as usize;
+        i += 1;
+    }
+    n
+}
+
+fn lifted_at(base: &[i64], served: &[u8], t: u32, x: usize) -> i64
+    requires { ⌜ (x < length (now base)) × (length (now served) ≡ length (now base)) × Bounded (2 ^ 29) (now base) ⌝ }
+    ensures { λ r. ⌜ r ≡ at (now (base .entry)) x +ℤ pos (cond (marked (now (served .entry)) x) t 0) ⌝ }
+{
+    whole::add(base[x], whole::of_u32(due(served[x], t)))
+}
+
+pub fn lift(d: &mut [i64], base: &[i64], served: &[u8], t: u32)
+    requires { ⌜ (length (now d) ≡ length (now base)) × (length (now served) ≡ length (now base)) × Bounded (2 ^ 29) (now base) ⌝ }
+    ensures { λ _. ⌜ now (d .exit) ≡ lifted (now (served .entry)) t (now (base .entry)) ⌝ }
+{
+    let mut i = 0;
+    while i < base.len() {
+        d[i] = lifted_at(base, served, t, i);
+        i += 1;
+    }
+}

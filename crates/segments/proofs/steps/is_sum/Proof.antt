@@ -1,0 +1,21 @@
+use Rattle.whole.specs.Range.{via}
+use borrow.Author.Needs.{needs}
+use mathlib.Core.Path.{_∙_}
+use mir.ValLaws.{toZ-ofZ}
+use native.Mathlib.Omega.{arith}
+use Rattle.segments.proofs.steps.is_sum.Statement.{statement}
+use Rattle.segments.proofs.steps.is_sum.Tie as tie
+
+add-requires : tie.Need-add-requires
+add-requires c κs = simp (toZ-ofZ, c .fits .x, c .fits .e) (omega arith)
+
+same-requires : tie.Need-same-requires
+same-requires c κs = search needs
+
+returns : tie.Need-returns
+returns c =
+    let a = c .before .before in
+    c .same .ensures ∙ simp (toZ-ofZ, a .fits .x, a .fits .y, a .fits .e, via (c .before .add .ok) (c .before .add .ensures))
+
+pub is-sum-spec : {M : Type 1} → statement M
+is-sum-spec = tie.close (tie.spec add-requires same-requires returns)
