@@ -48,6 +48,24 @@ module _ {n : Netlist} (k : Clock n) where
     pub rounds-few : roundsFrom n d ≤ limit n
     rounds-few = omega (arith, final-done .few, positives-few)
 
+    -- no served component is left with positive slack
+    pub never-stalled : parts n ≤ lowestPositive n (servedOf (n .kinds)) (finalFrom n d)
+    unfolding lowestPositive
+    never-stalled = by (ltb (lowest test (parts n)) (parts n)) refl
+      where
+        f : List ℤ
+        f = finalFrom n d
+
+        test : ℕ → Bool
+        test = positive (servedOf (n .kinds)) (arrivals n f) (requireds n f)
+
+        by : (u : Bool) → ltb (lowest test (parts n)) (parts n) ≡ u → parts n ≤ lowest test (parts n)
+        by false e = ltb-false (lowest test (parts n)) (parts n) e
+        by true e =
+            let y = lowest test (parts n) in
+            let (h, l) = positive-is (servedOf (n .kinds)) (arrivals n f) (requireds n f) y (lowest-is test (parts n) (ltb-true y (parts n) e)) in
+            absurd (omega (whole, l, final-done .spent y h))
+
   module _ {b d : List ℤ} {t : ℕ} (g : Based n b) (s : Start n b t d) where
     abbrev f : List ℤ
     f = finalFrom n d
@@ -107,18 +125,3 @@ module _ {n : Netlist} (k : Clock n) where
     -- no increment is above 200,000,000
     pub increment-most : (x : ℕ) → inc x ≤ 200000000
     increment-most x = omega (whole, bounds-are x, safe-bounded k (done .safe) .at x, g .least x, sum (at b x) (pos (inc x)))
-
-    -- no served component is left with positive slack
-    pub never-stalled : parts n ≤ lowestPositive n (servedOf (n .kinds)) f
-    unfolding lowestPositive
-    never-stalled = by (ltb (lowest test (parts n)) (parts n)) refl
-      where
-        test : ℕ → Bool
-        test = positive (servedOf (n .kinds)) (arrivals n f) (requireds n f)
-
-        by : (u : Bool) → ltb (lowest test (parts n)) (parts n) ≡ u → parts n ≤ lowest test (parts n)
-        by false e = ltb-false (lowest test (parts n)) (parts n) e
-        by true e =
-            let y = lowest test (parts n) in
-            let (h, l) = positive-is (servedOf (n .kinds)) (arrivals n f) (requireds n f) y (lowest-is test (parts n) (ltb-true y (parts n) e)) in
-            absurd (omega (whole, l, done .spent y h))

@@ -1,5 +1,5 @@
 -- What the run needs of the rounds that it did, and that what it answers is how they end.
-use mathlib.Core.Path.{_≡_, refl, ap, _∙_}
+use mathlib.Core.Path.{_≡_, refl, sym, ap, _∙_}
 use mathlib.Core.List.{List}
 use Prim.Native.Nat.{ℕ, _<_, _≤_}
 use native.Mathlib.Omega.{arith}
@@ -10,11 +10,12 @@ use Rattle.circuit.specs.Lists.{count, lowest}
 use Rattle.circuit.specs.Netlist.{Netlist, parts, servedOf, serves}
 use Rattle.circuit.specs.Times.{Accepted}
 use Rattle.circuit.specs.Rounds.{positive, lowestPositive, settled}
+use Rattle.circuit.specs.Budget.{limit, finalFrom, roundsFrom}
 use Rattle.circuit.specs.ServedLaws.{length-served}
 use Rattle.circuit.specs.ClockLaws.{clock}
 use Rattle.circuit.specs.SafeLaws.{Safe}
 use Rattle.circuit.specs.RunLaws.{run-done}
-use Rattle.circuit.specs.FinalLaws.{positives-few}
+use Rattle.circuit.specs.FinalLaws.{positives-few, never-stalled, rounds-few}
 use Rattle.rounds.specs.declared.runs.Ended.the-variants.{Done, Stalled}
 use Rattle.rounds.specs.Round.{Chose}
 use Rattle.rounds.specs.Run.{Ran}
@@ -37,3 +38,9 @@ module _ {n : Netlist} {k : ℕ} {d f a r : List ℤ} {c x y : ℕ} (q : Ran n k
   pub end-done : parts n ≤ y → Done c ≡ endOf n k d
   unfolding endOf
   end-done h = let g = lowest-is q t e in if-no _ _ (rw g at h) (ap Done (q .counted))
+
+-- "The number of rounds is counted and returned; it is at most the number of non-inputs.": from delays in time, as many rounds as there are served
+-- components end with none left to do, and the count is the definition's
+pub rounds-end : {n : Netlist} {d : List ℤ} → Accepted n → Safe n d → (endOf n (limit n) d ≡ Done (roundsFrom n d)) × (roundsFrom n d ≤ limit n)
+unfolding endOf finalFrom roundsFrom
+rounds-end {n} {d} q s = (sym (if-no _ _ (never-stalled (clock q) s) refl), rounds-few (clock q) s)
