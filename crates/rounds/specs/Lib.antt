@@ -5,3 +5,4 @@ pub mod Round
 pub mod Run
 pub mod End
 pub mod EndLaws
+pub mod Budgets

@@ -1,0 +1,94 @@
+-- What a budget in code asks, and that it is the definition's.
+use mathlib.Core.Path.{_≡_, refl, sym, ap, _∙_}
+use mathlib.Core.List.{List}
+use Prim.Native.Nat.{ℕ, _<_, _≤_}
+use native.Mathlib.Omega.{arith}
+use lib.IntN.{ℤ}
+use lib.ListN.{length}
+use Rattle.whole.specs.Pick.{if-yes}
+use Rattle.whole.specs.Range.{bounded-more}
+use Rattle.circuit.specs.Netlist.{Netlist, parts, circuitOf, servedOf, marked, Based}
+use Rattle.circuit.specs.Lists.{at, count}
+use Rattle.circuit.specs.Circuit.{InTime}
+use Rattle.circuit.specs.Times.{Accepted, lowestLate}
+use Rattle.circuit.specs.Rounds.{settled}
+use Rattle.circuit.specs.Budget.{limit, shareIn, startIn, finalFrom, roundsFrom, budgetOf}
+use Rattle.circuit.specs.Budget as C
+use Rattle.circuit.specs.ServedLaws.{length-served}
+use Rattle.circuit.specs.LateLaws.{late-le, late-none-is}
+use Rattle.circuit.specs.ClockLaws.{clock}
+use Rattle.circuit.specs.SafeLaws.{Safe, based-bounded}
+use Rattle.circuit.specs.BudgetLaws.{lifted-bounded, start-is, budget-is}
+use Rattle.timing.specs.Ready.{Ready}
+use Rattle.rounds.specs.declared.runs.Ended.{Ended}
+use Rattle.rounds.specs.declared.runs.Ended.the-variants as E
+use Rattle.rounds.specs.declared.budgets.Outcome.{Outcome}
+use Rattle.rounds.specs.declared.budgets.Outcome.the-variants.{Late, Stalled, Budget}
+use Rattle.rounds.specs.Sharing.{Sharing}
+use Rattle.rounds.specs.End.{endOf}
+use Rattle.rounds.specs.EndLaws.{rounds-end}
+
+-- the code's answer to an outcome of the definition, whose increments are final delay less base
+abbrev pub answerOf : C.Outcome → Outcome
+answerOf (C.LateAt x) = Late x
+answerOf (C.StalledAt x) = Stalled x
+answerOf (C.Budgeted t k l) = Budget t k
+
+-- of the mode m, netlist n and base delays b: the answer, and the final delays where there is a budget
+pub record Budgets (m : ℕ) (n : Netlist) (b f : List ℤ) (r : Outcome) : Type 0 where
+  pub answer : r ≡ answerOf (budgetOf m n b)
+  pub final : {t k : ℕ} → r ≡ Budget t k → f ≡ finalFrom n (startIn m n b)
+
+-- an accepted netlist, its base delays and its marks
+pub record Given (n : Netlist) (sv : List ℕ) (b : List ℤ) : Type 0 where
+  pub accepted : Accepted n
+  pub based : Based n b
+  pub marks : sv ≡ servedOf (n .kinds)
+
+module _ {n : Netlist} {sv : List ℕ} {b : List ℤ} (g : Given n sv b) where
+  pub given-ready : Ready n b
+  given-ready =
+      let j = g .accepted .judged in
+      record { wired = j .wired; times-all = j .times-all; delays-all = g .based .all; times-in = bounded-more (omega arith) (j .times-in); delays-in = based-bounded (g .based) }
+
+  pub given-marks : length sv ≡ parts n
+  given-marks = rw (g .marks) (length-served (n .kinds))
+
+  pub given-sharing : {p q : ℕ} → p ≡ parts n → q ≡ parts n → Sharing n sv b p q
+  given-sharing e f = record { ready = given-ready; lifts = λ u h. rw (g .marks) (lifted-bounded (g .based) u h); marks-all = given-marks; delays-all = e; arrivals-all = f }
+
+  -- the marks say how many rounds are allowed
+  pub given-limit : {c : ℕ} → c ≡ count (marked sv) (length sv) → c ≡ limit n
+  given-limit e = e ∙ rw (g .marks, length-served (n .kinds)) refl
+
+  -- nothing is late, so that base delays are in time, and the start of every mode is
+  in-time : parts n ≤ lowestLate n b → InTime (circuitOf n) (at b)
+  in-time h = late-none-is n b (clock (g .accepted) .timed b (based-bounded (g .based))) (omega (arith, late-le n b))
+
+  pub given-safe : (m : ℕ) → parts n ≤ lowestLate n b → Safe n (startIn m n b)
+  given-safe m h = start-is (clock (g .accepted)) (g .based) (in-time h) m .safe
+
+  module _ (m : ℕ) where
+    pub outcome-late : {f : List ℤ} {x : ℕ} → x ≡ lowestLate n b → x < parts n → Budgets m n b f (Late x)
+    unfolding budgetOf
+    outcome-late e h =
+        let q : budgetOf m n b ≡ C.LateAt (lowestLate n b) = sym (if-yes _ _ (rw e at h) refl) in
+        record { answer = rw q (ap Late e); final = λ {t} {k} w. absurd (let z : _≡_ {A = ℕ} 0 1 = cc in omega arith) }
+
+    -- what a run from the start is asked, and gives
+    pub run-asked : {d : List ℤ} {c : ℕ} → parts n ≤ lowestLate n b → d ≡ startIn m n b → c ≡ limit n → Accepted n × Safe n d × (sv ≡ servedOf (n .kinds)) × (limit n ≤ c)
+    run-asked h e l = (g .accepted, rw e (given-safe m h), g .marks, omega arith)
+
+    pub run-gave : {d f : List ℤ} {c : ℕ} {end : Ended} → d ≡ startIn m n b → c ≡ limit n → (end ≡ endOf n c d) × (f ≡ settled n (servedOf (n .kinds)) c d) → (end ≡ endOf n (limit n) (startIn m n b)) × (f ≡ finalFrom n (startIn m n b))
+    unfolding finalFrom
+    run-gave e l p = rw (e, l) at p
+
+    -- the rounds from the start end, and no other way
+    pub outcome-stalled : {f : List ℤ} {y : ℕ} {end : Ended} → parts n ≤ lowestLate n b → end ≡ endOf n (limit n) (startIn m n b) → end ≡ E.Stalled y → Budgets m n b f (Stalled y)
+    outcome-stalled h e w = let q = rounds-end (g .accepted) (given-safe m h) .0 in absurd (let z : _≡_ {A = ℕ} 0 1 = cc in omega arith)
+
+    pub outcome-done : {f : List ℤ} {t c : ℕ} {end : Ended} → parts n ≤ lowestLate n b → t ≡ shareIn m n b → end ≡ endOf n (limit n) (startIn m n b) → end ≡ E.Done c → f ≡ finalFrom n (startIn m n b) → Budgets m n b f (Budget t c)
+    outcome-done {t = t} {c = c} h s e w l =
+        let q = rounds-end (g .accepted) (given-safe m h) .0 in
+        let same : c ≡ roundsFrom n (startIn m n b) = cc in
+        record { answer = rw (budget-is (clock (g .accepted)) (g .based) (in-time h) m, s, same) refl; final = λ {t} {k} v. l }
