@@ -1,0 +1,12 @@
+pub mod Judge
+pub mod Held
+pub mod RuleLaws
+pub mod HeldLaws
+pub mod ReadLaws
+pub mod BoardLaws
+pub mod FuelLaws
+pub mod EndsLaws
+pub mod Accepted
+pub mod Ends
+pub mod CountLaws
+pub mod JudgeLaws
