@@ -6,7 +6,7 @@ use native.Mathlib.Numerals.{sub-one}
 use native.Mathlib.Omega.{arith}
 use lib.IntN.{ℤ}
 use lib.ListN.{length}
-use Rattle.whole.specs.Pick.{eq, if-yes, if-no, if-cases}
+use Rattle.whole.specs.Pick.{eq, if-yes, if-no}
 use Rattle.records.specs.declared.Found.{Found}
 use Rattle.records.specs.declared.Found.the-variants as F
 use Rattle.records.specs.Record.{recordAt, partOf}
@@ -15,9 +15,11 @@ use Rattle.netlists.specs.declared.Verdict.the-variants.{Good, Broken, T
 use Rattle.netlists.specs.declared.State.{State}
 use Rattle.netlists.specs.declared.Stepped.{Stepped}
 use Rattle.netlists.specs.declared.Stepped.the-variants as S
-use Rattle.netlists.specs.Judge.{Board, empty, Turn, Go, Stop, onComponent, onConnection, onRecord, finish, onFound, stepOf, readFrom, recordsOf, boardOf}
+use Rattle.netlists.specs.Judge.{Board, empty, Go, Stop, onRecord, finish, stepOf, readFrom, recordsOf, boardOf}
 use Rattle.netlists.specs.Held.{Arrays, arrays, held, LongParts, LongWires, Room, endedAt, OnComponent, OnConnection, OnRecord, OneStep, Decoded, Read}
 use Rattle.netlists.specs.HeldLaws.{held-comps, held-conns}
+use Rattle.netlists.specs.BoardLaws.{Final}
+use Rattle.netlists.specs.FuelLaws.{board-fine}
 
 -- ---- one record
 
@@ -51,56 +53,6 @@ module _ {s : List ℕ} {st : State} {f : Found} {a : Arrays} (found : f ≡ rec
   unfolding stepOf
   step-record e₁ e₂ o = record { turned = rw (← found, e₁, ← e₂) (o .turned) }
 
--- ---- what a verdict on a board says of it
-
-abbrev Tells : Board → Verdict → Type 0
-Tells b (Good n m) = (n ≡ length (b .kinds)) × (m ≡ length (b .froms))
-Tells b (Broken a) = Unit
-Tells b (Tag a) = Unit
-Tells b (Size a) = Unit
-Tells b (Field a) = Unit
-Tells b (Wiring a) = Unit
-Tells b (Ends x) = Unit
-
-abbrev Stops : Board → Turn → Type 0
-Stops b (Go c) = Unit
-Stops b (Stop v) = Tells b v
-
-module _ (s : List ℕ) (b : Board) where
-  finish-tells : Tells b (finish s b)
-  unfolding finish
-  finish-tells = if-cases (Tells b) _ _ _ (λ _. tt) (λ _. (refl, refl))
-
-  component-tells : (p : List ℕ) (next : ℕ) → Stops b (onComponent p b next)
-  unfolding onComponent
-  component-tells p next =
-      if-cases (Stops b) _ _ _ (λ _.
-      if-cases (Stops b) _ _ _ (λ _.
-      if-cases (Stops b) _ _ _ (λ _.
-      if-cases (Stops b) _ _ _ (λ _. tt)
-      (λ _. tt)) (λ _. tt)) (λ _. tt)) (λ _. tt)
-
-  connection-tells : (p : List ℕ) (next : ℕ) → Stops b (onConnection p b next)
-  unfolding onConnection
-  connection-tells p next =
-      if-cases (Stops b) _ _ _ (λ _.
-      if-cases (Stops b) _ _ _ (λ _.
-      if-cases (Stops b) _ _ _ (λ _. tt)
-      (λ _. tt)) (λ _. tt)) (λ _. tt)
-
-  record-tells : (tag : ℕ) (p : List ℕ) (next : ℕ) → Stops b (onRecord tag p b next)
-  unfolding onRecord
-  record-tells tag p next = if-cases (Stops b) _ _ _ (λ _. component-tells p next) (λ _. if-cases (Stops b) _ _ _ (λ _. connection-tells p next) (λ _. tt))
-
-  found-tells : (f : Found) → Stops b (onFound s b f)
-  found-tells F.End = finish-tells
-  found-tells F.Broken = tt
-  found-tells (F.Record tag start len next) = record-tells tag (partOf s start len) next
-
-  step-tells : Stops b (stepOf s b)
-  unfolding stepOf
-  step-tells = found-tells (recordAt s (b .at))
-
 -- ---- the loop
 
 -- what is left to read from here gives what the whole file gives
@@ -111,39 +63,39 @@ pub record Reading (s : List ℕ) (left : ℕ) (st : State) (a : Arrays) : Type 
   pub rest : readFrom left s (held st a) ≡ readFrom (length s) s empty
 
 -- a verdict that says what it must of the board that is held has that board in the arrays
-decoded : (v : Verdict) {st : State} {a : Arrays} → Room st → LongParts (a .ks) (a .bs) (a .tm) → LongWires (a .fs) (a .ts) → Tells (held st a) v → Decoded v (held st a) a
-decoded (Good n m) room l w (e₁, e₂) =
-    let f : n ≡ _ = e₁ ∙ held-comps room l in
-    let g : m ≡ _ = e₂ ∙ held-conns room w in
-    rw (f, g) (record { kinds = refl; bases = refl; times = refl; froms = refl; tos = refl })
-decoded (Broken p) room l w t = tt
-decoded (Tag p) room l w t = tt
-decoded (Size p) room l w t = tt
-decoded (Field p) room l w t = tt
-decoded (Wiring p) room l w t = tt
-decoded (Ends x) room l w t = tt
+decoded : (v : Verdict) {st : State} {a : Arrays} → Room st → LongParts (a .ks) (a .bs) (a .tm) → LongWires (a .fs) (a .ts) → Final (held st a) v → Decoded v (held st a) a
+decoded (Good n m) room l w f =
+    let p : n ≡ _ = f .0 ∙ held-comps room l in
+    let q : m ≡ _ = f .1 ∙ held-conns room w in
+    rw (p, q) (record { kinds = refl; bases = refl; times = refl; froms = refl; tos = refl })
+decoded (Broken p) room l w f = tt
+decoded (Tag p) room l w f = tt
+decoded (Size p) room l w f = tt
+decoded (Field p) room l w f = tt
+decoded (Wiring p) room l w f = tt
+decoded (Ends x) room l w f = tt
 
 module _ {s : List ℕ} where
   pub reading-starts : {a : Arrays} → LongParts (a .ks) (a .bs) (a .tm) → LongWires (a .fs) (a .ts) → Reading s (length s) (record { at = 0; comps = 0; conns = 0; least = 0 }) a
   reading-starts l w = record { room = record { comps = omega arith; conns = omega arith }; parts = l; wires = w; rest = refl }
 
   -- it was read to here
-  here : {v : Verdict} {st : State} {a : Arrays} → Room st → LongParts (a .ks) (a .bs) (a .tm) → LongWires (a .fs) (a .ts) → Tells (held st a) v → (v, held st a) ≡ readFrom (length s) s empty → Read s v a
+  here : {v : Verdict} {st : State} {a : Arrays} → Room st → LongParts (a .ks) (a .bs) (a .tm) → LongWires (a .fs) (a .ts) → (v, held st a) ≡ readFrom (length s) s empty → Read s v a
   unfolding recordsOf boardOf
-  here {v} room l w t e = record { judged = ap (λ (q : Verdict × Board). q .0) e; decodes = rw (boardOf, ← e) (decoded v room l w t) }
+  here {v} room l w e = record { judged = ap (λ (q : Verdict × Board). q .0) e; decodes = rw (boardOf, ← e) (decoded v room l w (rw (boardOf, recordsOf, ← e) at (board-fine s .1))) }
 
   pub reading-ends : {n : ℕ} {st : State} {v : Verdict} {a : Arrays} → Reading s n st a → n ≤ 0 → v ≡ endedAt (length s) (st .comps) (st .conns) → Read s v a
   unfolding finish
   reading-ends {n = zero} {st} {v} {a} i h e =
       let f : v ≡ finish s (held st a) = rw (held-comps (i .room) (i .parts), held-conns (i .room) (i .wires)) e in
-      here (i .room) (i .parts) (i .wires) (rw f (finish-tells s (held st a))) (rw f (i .rest))
+      here (i .room) (i .parts) (i .wires) (rw f (i .rest))
   reading-ends {n = suc n} i h e = absurd (omega arith)
 
   pub reading-stops : {n : ℕ} {st : State} {r : Stepped} {v : Verdict} {e x : Arrays} → Reading s n st e → 0 < n → OneStep r s st e x → r ≡ S.Stop v → Read s v x
   reading-stops {n = zero} i h d q = absurd (omega arith)
   reading-stops {n = suc n} {st} {v} {e} {x} i h d q =
       let (t, u) = rw q at (d .turned) in
-      rw u (here (i .room) (i .parts) (i .wires) (rw (← t) at (step-tells s (held st e))) (rw (← t) at (i .rest)))
+      rw u (here (i .room) (i .parts) (i .wires) (rw (← t) at (i .rest)))
 
   pub reading-next : {n : ℕ} {st st′ : State} {r : Stepped} {e x : Arrays} → Reading s n st e → 0 < n → OneStep r s st e x → r ≡ S.Go st′
       → LongParts (x .ks) (x .bs) (x .tm) → LongWires (x .fs) (x .ts) → Reading s (n - 1) st′ x

@@ -25,6 +25,10 @@ pub record Bases (bases : List ℤ) : Type 0 where
 pub bases-within : {bases : List ℤ} → ((x : ℕ) → pos 0 ≤ℤ at bases x) → ((x : ℕ) → at bases x ≤ℤ pos 65535) → Bases bases
 bases-within {bases} h g = record { most = λ x. let l = h x in let m = g x in omega (whole, apart (at bases x)) }
 
+-- "an increment above 200,000,000" is refused
+pub record Increments (incs : List ℕ) : Type 0 where
+  pub most : (x : ℕ) → getD incs x 0 ≤ 200000000
+
 -- one component's part of the count
 abbrev pub countAt : ℕ → ℕ
 countAt mark = cond (eqb mark 1) 1 0

@@ -1,5 +1,6 @@
 pub mod Result
 pub mod Columns
+pub mod Bounds
 pub mod Writing
 pub mod Judging
 pub mod Tail

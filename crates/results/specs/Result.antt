@@ -10,7 +10,7 @@ use lib.ListN.{length, getD}
 use Rattle.whole.specs.Whole.{up}
 use Rattle.whole.specs.Pick.{lt, eq, is, if?}
 use Rattle.whole.specs.Bytes.{numberAt, bytesOf}
-use Rattle.circuit.specs.Lists.{at, count}
+use Rattle.circuit.specs.Lists.{at, tabulate, count}
 use Rattle.circuit.specs.Netlist.{marked}
 use Rattle.circuit.specs.Budget.{known}
 use Rattle.records.specs.declared.Found.{Found}
@@ -126,3 +126,12 @@ incsOn (Stop a) = []
 
 unfoldable pub incrementsOf : List ℕ → List ℕ → List ℤ → List ℕ
 incrementsOf s sv bases = incsOn (boundsAt s sv bases 10)
+
+-- ---- what is read back
+
+-- "Read back gives inputs 0 and the rest base plus increment.": the bound of each component by its number
+abbrev pub boundOn : (mark base increment : ℕ) → ℕ
+boundOn mark b i = cond (eqb mark 1) (b + i) 0
+
+unfoldable pub boundsRead : List ℕ → List ℤ → List ℕ → List ℕ
+boundsRead sv bases incs = tabulate (λ x. boundOn (getD sv x 0) (up (at bases x)) (getD incs x 0)) (length sv)

@@ -7,9 +7,9 @@ ghost use Rattle.whole.specs.Whole.{up};
 ghost use Rattle.circuit.specs.Lists.{count};
 ghost use Rattle.circuit.specs.Netlist.{marked};
 ghost use Rattle.records.specs.Record.{recordAt};
-ghost use Rattle.results.specs.Result.{summaryOf, boundOf, boundTag, boundsOf, encode, needed, summaryOk, boundOk, stepOf, boundsAt};
+ghost use Rattle.results.specs.Result.{summaryOf, boundOf, boundTag, boundsOf, encode, needed, summaryOk, boundOk, stepOf, boundsAt, boundOn, boundsRead};
 ghost use Rattle.results.specs.Judging.{summaryTold, summaryFound, boundTold, boundFound, held, moved, Ended, Heard};
-ghost use Rattle.results.specs.Columns.{Columns, Bases, countAt, widthAt, boundAt};
+ghost use Rattle.results.specs.Columns.{Columns, Bases, countAt, widthAt, boundAt, Increments};
 use records::Found;
 
 // The tags of the two records, in the writer and in the judge.
@@ -295,5 +295,31 @@ pub fn judge_result(s: &[u8], served: &[u8], bases: &[i64], incs: &mut [u32]) ->
             share: _,
             rounds: _,
         } => judge_bounds(s, served, bases, incs, told),
+    }
+}
+
+// ---- what is read back
+
+// Base plus increment, and nothing for an input.
+fn bound_of(mark: u8, base: i64, increment: u32) -> u32
+    requires { ⌜ (up base ≤ 65535) × (increment ≤ 200000000) ⌝ }
+    ensures { λ r. ⌜ r ≡ boundOn mark (up base) increment ⌝ }
+{
+    if mark == 1 {
+        base_of(base) + increment
+    } else {
+        0
+    }
+}
+
+// From base delays and increments alone, whatever the buffer held.
+pub fn bounds_in(bounds: &mut [u32], served: &[u8], bases: &[i64], incs: &[u32])
+    requires { ⌜ Columns (now served) (now bases) (now incs) × Bases (now bases) × Increments (now incs) × (length (now bounds) ≡ length (now served)) ⌝ }
+    ensures { λ _. ⌜ now (bounds .exit) ≡ boundsRead (now (served .entry)) (now (bases .entry)) (now (incs .entry)) ⌝ }
+{
+    let mut x: usize = 0;
+    while x < served.len() {
+        bounds[x] = bound_of(served[x], bases[x], incs[x]);
+        x += 1;
     }
 }

@@ -1,7 +1,7 @@
 use Prim.Native.Nat.{_-_, _≤_}
 use Rattle.circuit.specs.Netlist.{mark, servedOf}
 use Rattle.circuit.specs.ServedLaws.{length-served}
-use Rattle.rounds.specs.Fill.{Filling, filling-ends, filling-next, filling-starts}
+use Rattle.whole.specs.Fill.{Filling, filling-ends, filling-next, filling-starts}
 use borrow.Author.Needs.{needs}
 use denote.Ref.{now}
 use lib.ListN.{List·getD-map, length}

@@ -1,0 +1,84 @@
+use Rattle.worked.specs.Taken.{good-filled}
+use borrow.Author.Needs.{needs}
+use mathlib.Core.Path.{_∙_}
+use Rattle.worked.proofs.show_in.Statement.{statement}
+use Rattle.worked.proofs.show_in.Tie as tie
+
+read-netlist-requires : tie.Need-read-netlist-requires
+read-netlist-requires c κs = search needs
+
+enum-known-v : tie.Need-enum-known-v
+enum-known-v c = search needs
+
+slice-aggregate-write-all : tie.Need-slice-aggregate-write-all
+slice-aggregate-write-all c = search needs
+
+write-all-requires : tie.Need-write-all-requires
+write-all-requires c κs = search needs
+
+same-length : tie.Need-same-length
+same-length c = search needs
+
+same-length-2 : tie.Need-same-length-2
+same-length-2 c = search needs
+
+same-length-3 : tie.Need-same-length-3
+same-length-3 c = search needs
+
+same-length-4 : tie.Need-same-length-4
+same-length-4 c = search needs
+
+same-length-5 : tie.Need-same-length-5
+same-length-5 c = search needs
+
+returns : tie.Need-returns
+returns c = search needs
+
+both-in-requires : tie.Need-both-in-requires
+both-in-requires c κs =
+    let p = c .before .before .before .before .before .before .before .before .before .before .before .before .before .before .before .before .before .before .before .before .before .before .before .before .before .before .pre in
+    let r = c .before .before .before .before .before .before .before .before .before .before .before .before .before .before .before .before .read-netlist in
+    let l = r .kept .1 in
+    good-filled (c .before .before .before .before .before .before .v .given .1) (r .ensures)
+    (record { ks-long = l .0 ∙ p .0 .ks-long; bs-long = l .1 .0 ∙ p .0 .bs-long; tm-long = l .1 .1 .0 ∙ p .0 .tm-long })
+    (record { fs-long = l .1 .1 .1 .0 ∙ p .1 .fs-long; ts-long = l .1 .1 .1 .1 .0 ∙ p .1 .ts-long })
+
+same-length-6 : tie.Need-same-length-6
+same-length-6 c = search needs
+
+same-length-7 : tie.Need-same-length-7
+same-length-7 c = search needs
+
+same-length-8 : tie.Need-same-length-8
+same-length-8 c = search needs
+
+same-length-9 : tie.Need-same-length-9
+same-length-9 c = search needs
+
+same-length-10 : tie.Need-same-length-10
+same-length-10 c = search needs
+
+returns-2 : tie.Need-returns-2
+returns-2 c = search needs
+
+pub show-in-spec : {M : Type 1} → statement M
+show-in-spec =
+    tie.close
+    (tie.spec
+    read-netlist-requires
+    enum-known-v
+    slice-aggregate-write-all
+    write-all-requires
+    same-length
+    same-length-2
+    same-length-3
+    same-length-4
+    same-length-5
+    returns
+    both-in-requires
+    same-length-6
+    same-length-7
+    same-length-8
+    same-length-9
+    same-length-10
+    returns-2)

@@ -1,0 +1,58 @@
+-- A netlist that the reader took, as the budget asks for it.
+use mathlib.Core.Path.{_≡_, sym, _∙_}
+use mathlib.Core.List.{List}
+use Prim.Native.Nat.{ℕ, _≤_}
+use native.Mathlib.Omega.{arith}
+use lib.IntN.{ℤ}
+use lib.ListN.{length, take, replicate, length-replicate}
+use lib.Seq.{length-take-le}
+use Rattle.circuit.specs.Netlist.{Netlist, netlist, servedOf, Based}
+use Rattle.circuit.specs.Times.{Accepted}
+use Rattle.circuit.specs.TimesLaws.{rising-order}
+use Rattle.rounds.specs.Budgets.{Given}
+use Rattle.netlists.specs.declared.Verdict.{Verdict}
+use Rattle.netlists.specs.declared.Verdict.the-variants.{Good}
+use Rattle.netlists.specs.Held.{Arrays, LongParts, LongWires, Board-in, Judges}
+use Rattle.netlists.specs.Judge.{boardOf}
+use Rattle.netlists.specs.Accepted.{accepted}
+
+-- an accepted netlist, and its base delays
+pub record Taken (n : Netlist) (b : List ℤ) : Type 0 where
+  pub accepted : Accepted n
+  pub based : Based n b
+
+pub taken-given : {n : Netlist} {sv : List ℕ} {b : List ℤ} → Taken n b → sv ≡ servedOf (n .kinds) → Given n sv b
+taken-given t e = record { accepted = t .accepted; based = t .based; marks = e }
+
+-- such a netlist in the first places of the reader's arrays
+pub record Filled (n m : ℕ) (a : Arrays) : Type 0 where
+  pub taken : Taken (netlist (take n (a .ks)) (take n (a .tm)) (take m (a .fs)) (take m (a .ts))) (take n (a .bs))
+  pub kinds-all : n ≤ length (a .ks)
+  pub bases-all : n ≤ length (a .bs)
+  pub times-all : n ≤ length (a .tm)
+  pub froms-all : m ≤ length (a .fs)
+  pub tos-all : m ≤ length (a .ts)
+
+pub good-filled : {s : List ℕ} {v : Verdict} {n m : ℕ} {a : Arrays} → v ≡ Good n m → Judges s v a → LongParts (a .ks) (a .bs) (a .tm) → LongWires (a .fs) (a .ts) → Filled n m a
+good-filled {s} {v} {n} {m} {a} e j p w =
+    let q = accepted s (sym (j .judged) ∙ e) in
+    let b : Board-in (boardOf s) n m a = rw e at (j .decodes) in
+    let few : n ≤ 1024 = rw (q .parts-are) (q .judged .few) in
+    let fewer : m ≤ 4096 = rw (q .wires-are) (q .judged .wired .few) in
+    record {
+      taken = rw (b .kinds, b .times, b .froms, b .tos, b .bases) (record { accepted = record { judged = q .judged; ordered = rising-order (q .rising) (q .judged .sorted) }; based = q .based });
+      kinds-all = rw (p .ks-long) few;
+      bases-all = rw (p .bs-long) few;
+      times-all = rw (p .tm-long) few;
+      froms-all = rw (w .fs-long) fewer;
+      tos-all = rw (w .ts-long) fewer;
+    }
+
+-- base and final delays of the marked: as many as there are marks
+pub record Rows (sv : List ℕ) (b f : List ℤ) : Type 0 where
+  pub bases-all : length b ≡ length sv
+  pub bounds-all : length f ≡ length sv
+
+-- a part of a new array
+pub length-first : {A : Type 0} (n m : ℕ) (x : A) → n ≤ m → length (take n (replicate m x)) ≡ n
+length-first n m x h = length-take-le n (replicate m x) (omega (arith, length-replicate m x))
