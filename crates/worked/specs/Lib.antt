@@ -1,2 +1,2 @@
-pub mod Taken
+pub mod Rows
 pub mod Closed

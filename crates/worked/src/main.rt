@@ -7,7 +7,8 @@ ghost use Rattle.circuit.specs.Netlist.{netlist};
 ghost use Rattle.netlists.specs.Held.{arrays, LongParts, LongWires};
 ghost use Rattle.rounds.specs.Round.{Desk};
 ghost use Rattle.segments.specs.Lent.{Loaded};
-ghost use Rattle.worked.specs.Taken.{Taken, Filled, Rows};
+ghost use Rattle.hozbantir.specs.Taken.{Taken, Filled};
+ghost use Rattle.worked.specs.Rows.{Rows};
 use netlists::Verdict;
 use rounds::Outcome;
 

@@ -1,5 +1,5 @@
 use Prim.Native.Nat.{_*_, _+_}
-use Rattle.worked.specs.Taken.{length-first}
+use Rattle.hozbantir.specs.Taken.{length-first}
 use borrow.Author.Needs.{needs}
 use denote.Ref.{now}
 use lib.IntN.{pos}

@@ -1,4 +1,4 @@
-use Rattle.worked.specs.Taken.{taken-given}
+use Rattle.hozbantir.specs.Taken.{taken-given}
 use borrow.Author.Needs.{needs}
 use mathlib.Core.Path.{_∙_, sym}
 use Rattle.worked.proofs.budget_on.Statement.{statement}

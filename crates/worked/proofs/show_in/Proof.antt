@@ -1,4 +1,4 @@
-use Rattle.worked.specs.Taken.{good-filled}
+use Rattle.hozbantir.specs.Taken.{good-filled}
 use borrow.Author.Needs.{needs}
 use mathlib.Core.Path.{_∙_}
 use Rattle.worked.proofs.show_in.Statement.{statement}

@@ -48,11 +48,6 @@ good-filled {s} {v} {n} {m} {a} e j p w =
       tos-all = rw (w .ts-long) fewer;
     }
 
--- base and final delays of the marked: as many as there are marks
-pub record Rows (sv : List ℕ) (b f : List ℤ) : Type 0 where
-  pub bases-all : length b ≡ length sv
-  pub bounds-all : length f ≡ length sv
-
 -- a part of a new array
 pub length-first : {A : Type 0} (n m : ℕ) (x : A) → n ≤ m → length (take n (replicate m x)) ≡ n
 length-first n m x h = length-take-le n (replicate m x) (omega (arith, length-replicate m x))

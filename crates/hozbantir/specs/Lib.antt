@@ -1,0 +1,6 @@
+pub mod Answers
+pub mod Calls
+pub mod AnswerLaws
+pub mod Taken
+pub mod Slacks
+pub mod CallLaws
