@@ -4,3 +4,4 @@ pub mod AnswerLaws
 pub mod Taken
 pub mod Slacks
 pub mod CallLaws
+pub mod AnalyseLaws

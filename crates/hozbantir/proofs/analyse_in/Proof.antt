@@ -6,51 +6,37 @@ use lib.Seq.{length-take-le}
 use borrow.Author.Needs.{needs}
 use Rattle.hozbantir.proofs.analyse_in.Statement.{statement}
 use Rattle.hozbantir.proofs.analyse_in.Tie as tie
-use Rattle.hozbantir.proofs.analyse_in.Reads as reads
-use Rattle.hozbantir.proofs.analyse_in.Lts as lts
-use Rattle.hozbantir.proofs.slacks_in.Reads as slacks-in-reads
 
--- src/lib.rt:100:9
 returns : tie.Need-returns
 returns c = room-short _ _ _ _ (c .if1 .taken)
 
--- src/lib.rt:102:15
 slice-relend-prefix-slacks-in : tie.Need-slice-relend-prefix-slacks-in
 slice-relend-prefix-slacks-in c = search needs
 
--- src/lib.rt:102:15
 slice-aggregate-slacks-in : tie.Need-slice-aggregate-slacks-in
 slice-aggregate-slacks-in c = let a = c .before .before .before .before .before in sym (length-take-le (a .args .n) (now (a .args .out)) (c .before .if1 .left))
 
--- src/lib.rt:102:30
 slice-aggregate-slacks-in-2 : tie.Need-slice-aggregate-slacks-in-2
 slice-aggregate-slacks-in-2 c = let a = c .before .before .before .before .before .before in sym (length-take-le (a .args .n) (now (a .args .bases)) (a .pre .bases-all))
 
--- src/lib.rt:102:43
 slice-aggregate-slacks-in-3 : tie.Need-slice-aggregate-slacks-in-3
 slice-aggregate-slacks-in-3 c = let a = c .before .before .before .before .before .before .before in sym (length-take-le (a .args .n) (now (a .args .kinds)) (a .pre .kinds-all))
 
--- src/lib.rt:102:56
 slice-aggregate-slacks-in-4 : tie.Need-slice-aggregate-slacks-in-4
 slice-aggregate-slacks-in-4 c = let a = c .before .before .before .before .before .before .before .before in sym (length-take-le (a .args .n) (now (a .args .times)) (a .pre .times-all))
 
--- src/lib.rt:102:69
 slice-aggregate-slacks-in-5 : tie.Need-slice-aggregate-slacks-in-5
 slice-aggregate-slacks-in-5 c = let a = c .before .before .before .before .before .before .before .before .before in sym (length-take-le (a .args .m) (now (a .args .from)) (a .pre .froms-all))
 
--- src/lib.rt:102:81
 slice-aggregate-slacks-in-6 : tie.Need-slice-aggregate-slacks-in-6
 slice-aggregate-slacks-in-6 c = let a = c .before .before .before .before .before .before .before .before .before .before in sym (length-take-le (a .args .m) (now (a .args .to)) (a .pre .tos-all))
 
--- src/lib.rt:102:5
 slacks-in-requires : tie.Need-slacks-in-requires
 slacks-in-requires c κs = let a = c .before .before .before .before .before .before .before .before .before .before in (a .pre .taken, length-take-le (a .args .n) (now (a .args .out)) (c .before .before .before .before .before .before .if1 .left) ∙ sym (length-take-le (a .args .n) (now (a .args .kinds)) (a .pre .kinds-all)))
 
--- src/lib.rt:86:1
 same-length : tie.Need-same-length
 same-length c = search needs
 
--- src/lib.rt:86:1
 returns-2 : tie.Need-returns-2
 returns-2 c = let a = c .before .before .before .before .before .before .before .before .before .before .before .before in room-enough _ (a .args .n) _ (now (a .args .out)) (c .before .before .before .before .before .before .before .before .if1 .left) (length-slacks _ _ ∙ length-take-le (a .args .n) (now (a .args .kinds)) (a .pre .kinds-all)) (rw (c .before .slacks-in .ensures) refl)
 

@@ -11,53 +11,38 @@ use Rattle.hozbantir.specs.Taken.{good-filled}
 use borrow.Author.Needs.{needs}
 use Rattle.hozbantir.proofs.analyse_with.Statement.{statement}
 use Rattle.hozbantir.proofs.analyse_with.Tie as tie
-use Rattle.hozbantir.proofs.analyse_with.Reads as reads
-use Rattle.hozbantir.proofs.analyse_with.Lts as lts
-use Rattle.hozbantir.proofs.analyse_in.Reads as analyse-in-reads
-use Rattle.hozbantir.proofs.refused.Reads as refused-reads
-use Rattle.netlists.proofs.read_netlist.Reads as read-netlist-reads
 
 -- what is known past the `else`
 not-good : (v : Verdict) → OneOf (1 ∷ 2 ∷ 3 ∷ 4 ∷ 5 ∷ 6 ∷ []) (tagOf the-type v) → (n m : ℕ) → v ≡ Good n m → ⊥
 not-good v k n m e = miss (1 ∷ 2 ∷ 3 ∷ 4 ∷ 5 ∷ 6 ∷ []) 0 tt (rw e at k)
 
--- src/lib.rt:119:9
 read-netlist-requires : tie.Need-read-netlist-requires
 read-netlist-requires c κs = search needs
 
--- src/lib.rt:120:23
 enum-known-v : tie.Need-enum-known-v
 enum-known-v c = search needs
 
--- src/lib.rt:121:9
 refused-requires : tie.Need-refused-requires
 refused-requires c κs = search needs
 
--- src/lib.rt:121:9
 same-length : tie.Need-same-length
 same-length c = search needs
 
--- src/lib.rt:121:9
 same-length-2 : tie.Need-same-length-2
 same-length-2 c = search needs
 
--- src/lib.rt:121:9
 same-length-3 : tie.Need-same-length-3
 same-length-3 c = search needs
 
--- src/lib.rt:121:9
 same-length-4 : tie.Need-same-length-4
 same-length-4 c = search needs
 
--- src/lib.rt:121:9
 same-length-5 : tie.Need-same-length-5
 same-length-5 c = search needs
 
--- src/lib.rt:121:9
 returns : tie.Need-returns
 returns c = analyses-refused (c .before .before .before .before .before .before .before .before .before .before .read-netlist .ensures) _ (not-good _ (c .before .match .keys2)) (c .refused .ensures)
 
--- src/lib.rt:123:5
 analyse-in-requires : tie.Need-analyse-in-requires
 analyse-in-requires c κs = let p = c .before .before .before .before .before .before .before .before .before .before .before .before .before .before .before .before .before .before .before .before .before .before .before .before .before .before .before .pre in
     let r = c .before .before .before .before .before .before .before .before .before .before .before .before .before .before .before .before .before .read-netlist in
@@ -66,31 +51,24 @@ analyse-in-requires c κs = let p = c .before .before .before .before .before .b
     (record { ks-long = l .0 ∙ p .0 .ks-long; bs-long = l .1 .0 ∙ p .0 .bs-long; tm-long = l .1 .1 .0 ∙ p .0 .tm-long })
     (record { fs-long = l .1 .1 .1 .0 ∙ p .1 .fs-long; ts-long = l .1 .1 .1 .1 .0 ∙ p .1 .ts-long })
 
--- src/lib.rt:107:1
 same-length-6 : tie.Need-same-length-6
 same-length-6 c = search needs
 
--- src/lib.rt:107:1
 same-length-7 : tie.Need-same-length-7
 same-length-7 c = search needs
 
--- src/lib.rt:107:1
 same-length-8 : tie.Need-same-length-8
 same-length-8 c = search needs
 
--- src/lib.rt:107:1
 same-length-9 : tie.Need-same-length-9
 same-length-9 c = search needs
 
--- src/lib.rt:107:1
 same-length-10 : tie.Need-same-length-10
 same-length-10 c = search needs
 
--- src/lib.rt:107:1
 same-length-11 : tie.Need-same-length-11
 same-length-11 c = search needs
 
--- src/lib.rt:107:1
 returns-2 : tie.Need-returns-2
 returns-2 c = analyses-taken (c .before .before .before .before .before .before .before .before .before .before .before .before .before .before .before .before .before .before .before .read-netlist .ensures) _ (c .before .before .before .before .before .before .before .before .before .v .given .1) (c .before .analyse-in .ensures)
 

@@ -2,62 +2,46 @@ use mathlib.Core.Path.{refl}
 use borrow.Author.Needs.{needs}
 use Rattle.hozbantir.proofs.refused.Statement.{statement}
 use Rattle.hozbantir.proofs.refused.Tie as tie
-use Rattle.hozbantir.proofs.refused.Reads as reads
-use Rattle.hozbantir.proofs.refused.Lts as lts
 
--- src/lib.rt:34:32
 enum-told : tie.Need-enum-told
 enum-told c = search needs
 
--- src/lib.rt:35:25
 enum-known-v : tie.Need-enum-known-v
 enum-known-v c = search needs
 
--- src/lib.rt:36:22
 enum-known-v-2 : tie.Need-enum-known-v-2
 enum-known-v-2 c = search needs
 
--- src/lib.rt:37:23
 enum-known-v-3 : tie.Need-enum-known-v-3
 enum-known-v-3 c = search needs
 
--- src/lib.rt:38:24
 enum-known-v-4 : tie.Need-enum-known-v-4
 enum-known-v-4 c = search needs
 
--- src/lib.rt:39:25
 enum-known-v-5 : tie.Need-enum-known-v-5
 enum-known-v-5 c = search needs
 
--- src/lib.rt:40:23
 enum-known-v-6 : tie.Need-enum-known-v-6
 enum-known-v-6 c = search needs
 
--- src/lib.rt:30:1
 returns : tie.Need-returns
 returns c = search needs
 
--- src/lib.rt:30:1
 returns-2 : tie.Need-returns-2
 returns-2 c = rw (c .before .v .given .1) refl
 
--- src/lib.rt:30:1
 returns-3 : tie.Need-returns-3
 returns-3 c = rw (c .before .v2 .given .1) refl
 
--- src/lib.rt:30:1
 returns-4 : tie.Need-returns-4
 returns-4 c = rw (c .before .v3 .given .1) refl
 
--- src/lib.rt:30:1
 returns-5 : tie.Need-returns-5
 returns-5 c = rw (c .before .v4 .given .1) refl
 
--- src/lib.rt:30:1
 returns-6 : tie.Need-returns-6
 returns-6 c = rw (c .before .v5 .given .1) refl
 
--- src/lib.rt:30:1
 returns-7 : tie.Need-returns-7
 returns-7 c = rw (c .before .v6 .given .1) refl
 

@@ -6,37 +6,27 @@ use lib.ListN.{length}
 use borrow.Author.Needs.{needs}
 use Rattle.hozbantir.proofs.slacks_in.Statement.{statement}
 use Rattle.hozbantir.proofs.slacks_in.Tie as tie
-use Rattle.hozbantir.proofs.slacks_in.Reads as reads
-use Rattle.hozbantir.proofs.slacks_in.Lts as lts
-use Rattle.hozbantir.proofs.slacks_on.Reads as slacks-on-reads
 
--- src/lib.rt:75:9
 array-borrow-prefix-arr : tie.Need-array-borrow-prefix-arr
 array-borrow-prefix-arr c = search needs
 
--- src/lib.rt:75:9
 slice-aggregate-slacks-on : tie.Need-slice-aggregate-slacks-on
 slice-aggregate-slacks-on c = let a = c .before .before .before .before .before in sym (length-first (length (now (a .args .kinds))) 1024 (pos 0) (a .pre .0 .accepted .judged .few))
 
--- src/lib.rt:76:9
 array-borrow-prefix-req : tie.Need-array-borrow-prefix-req
 array-borrow-prefix-req c = search needs
 
--- src/lib.rt:76:9
 slice-aggregate-slacks-on-2 : tie.Need-slice-aggregate-slacks-on-2
 slice-aggregate-slacks-on-2 c = let a = c .before .before .before .before .before .before in sym (length-first (length (now (a .args .kinds))) 1024 (pos 0) (a .pre .0 .accepted .judged .few))
 
--- src/lib.rt:73:5
 slacks-on-requires : tie.Need-slacks-on-requires
 slacks-on-requires c κs = let a = c .before .before .before .before .before .before in
     let e = length-first (length (now (a .args .kinds))) 1024 (pos 0) (a .pre .0 .accepted .judged .few) in
     (a .pre .0, record { outs-all = a .pre .1; arrs-all = e; reqs-all = e })
 
--- src/lib.rt:66:1
 same-length : tie.Need-same-length
 same-length c = search needs
 
--- src/lib.rt:66:1
 returns : tie.Need-returns
 returns c = search needs
 

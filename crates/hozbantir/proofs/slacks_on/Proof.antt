@@ -2,37 +2,25 @@ use Rattle.hozbantir.specs.Slacks.{taken-ready, taken-slacks, slacks-are
 use borrow.Author.Needs.{needs}
 use Rattle.hozbantir.proofs.slacks_on.Statement.{statement}
 use Rattle.hozbantir.proofs.slacks_on.Tie as tie
-use Rattle.hozbantir.proofs.slacks_on.Reads as reads
-use Rattle.hozbantir.proofs.slacks_on.Lts as lts
-use Rattle.timing.proofs.arrivals_in.Reads as arrivals-in-reads
-use Rattle.timing.proofs.required_in.Reads as required-in-reads
-use Rattle.timing.proofs.slacks_in.Reads as slacks-in-reads
 
--- src/lib.rt:41:5
 arrivals-in-requires : tie.Need-arrivals-in-requires
 arrivals-in-requires c κs = let p = c .before .before .before .before .pre in (taken-ready (p .0), p .1 .arrs-all)
 
--- src/lib.rt:42:5
 required-in-requires : tie.Need-required-in-requires
 required-in-requires c κs = let p = c .before .before .before .before .before .before .before .pre in (taken-ready (p .0), p .1 .reqs-all)
 
--- src/lib.rt:43:5
 slacks-in-requires : tie.Need-slacks-in-requires
 slacks-in-requires c κs = let p = c .before .before .before .before .before .before .before .before .before .before .before .before .pre in taken-slacks (p .0) (p .1 .outs-all) (c .before .before .before .before .before .before .before .arrivals-in .ensures) (c .before .before .before .before .required-in .ensures)
 
--- src/lib.rt:28:1
 same-length : tie.Need-same-length
 same-length c = search needs
 
--- src/lib.rt:28:1
 same-length-2 : tie.Need-same-length-2
 same-length-2 c = search needs
 
--- src/lib.rt:28:1
 same-length-3 : tie.Need-same-length-3
 same-length-3 c = search needs
 
--- src/lib.rt:28:1
 returns : tie.Need-returns
 returns c = let p = c .before .before .before .before .before .before .before .before .before .before .before .before .before .before .pre in slacks-are (p .0) (p .1 .outs-all) (c .before .before .before .before .before .before .before .before .before .arrivals-in .ensures) (c .before .before .before .before .before .before .required-in .ensures) (c .before .slacks-in .ensures)
 
