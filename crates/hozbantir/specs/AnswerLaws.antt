@@ -1,21 +1,106 @@
 -- How the code meets what a call leaves.
-use mathlib.Core.Path.{_≡_, refl, sym, _∙_}
+use mathlib.Core.Path.{_≡_, refl, sym, ap, _∙_}
 use mathlib.Core.List.{List, _++_}
 use Prim.Native.Nat.{ℕ, _<_, _≤_}
+use native.Mathlib.Omega.{arith}
 use lib.ListN.{length, drop}
-use Rattle.whole.specs.Pick.{lt, if-yes, if-no}
-use Rattle.hozbantir.specs.declared.Answer.the-variants.{Done, Room}
-use Rattle.hozbantir.specs.Answers.{Left, refusal, inRoom, Leaves}
+use Rattle.whole.specs.Pick.{Test, Yes, No, lt, if?, if-yes, if-no, if-cases}
+use Rattle.netlists.specs.declared.Verdict.{Verdict}
+use Rattle.netlists.specs.declared.Verdict.the-variants as J
+use Rattle.hozbantir.specs.declared.answers.Answer.{Answer}
+use Rattle.hozbantir.specs.declared.answers.Answer.the-variants.{Done, Mode, Broken, Tag, Size, Field, Wiring, Ends, Late, Stalled, Room, Result}
+use Rattle.hozbantir.specs.Answers.{numberOf, Left, left, refusal, inRoom, Leaves, unless, onVerdict}
+
+-- it does not say that all went well
+abbrev pub Refused : Answer → Type 0
+Refused a = (n : ℕ) → a ≡ Done n → ⊥
+
+module _ {A : Type 0} where
+  -- an answer that refuses leaves the buffer
+  pub refusal-leaves : (a : Answer) (before : List A) → Leaves (refusal a) before a before
+  refusal-leaves a before = record { number = refl; place = refl; writes = refl }
+
+  pub unless-refused : (a : Answer) (l : Left A) (before : List A) → Refused a → Leaves (unless a l) before a before
+  unless-refused (Done n) l before h = absurd (h n refl)
+  unless-refused Mode l before h = refusal-leaves Mode before
+  unless-refused (Broken a) l before h = refusal-leaves (Broken a) before
+  unless-refused (Tag a) l before h = refusal-leaves (Tag a) before
+  unless-refused (Size a) l before h = refusal-leaves (Size a) before
+  unless-refused (Field a) l before h = refusal-leaves (Field a) before
+  unless-refused (Wiring a) l before h = refusal-leaves (Wiring a) before
+  unless-refused (Ends x) l before h = refusal-leaves (Ends x) before
+  unless-refused (Late x) l before h = refusal-leaves (Late x) before
+  unless-refused (Stalled x) l before h = refusal-leaves (Stalled x) before
+  unless-refused (Room n) l before h = refusal-leaves (Room n) before
+  unless-refused (Result a) l before h = refusal-leaves (Result a) before
+
+-- a netlist that is not taken is refused
+pub verdict-refused : (v : Verdict) (a : Answer) → ((n m : ℕ) → v ≡ J.Good n m → ⊥) → Refused (onVerdict v a)
+verdict-refused (J.Good n m) a h k e = h n m refl
+verdict-refused (J.Broken p) a h k e = let f = ap numberOf e in omega arith
+verdict-refused (J.Tag p) a h k e = let f = ap numberOf e in omega arith
+verdict-refused (J.Size p) a h k e = let f = ap numberOf e in omega arith
+verdict-refused (J.Field p) a h k e = let f = ap numberOf e in omega arith
+verdict-refused (J.Wiring p) a h k e = let f = ap numberOf e in omega arith
+verdict-refused (J.Ends x) a h k e = let f = ap numberOf e in omega arith
+
+-- and the other answer does not matter
+pub verdict-same : (v : Verdict) (a b : Answer) → ((n m : ℕ) → v ≡ J.Good n m → ⊥) → onVerdict v a ≡ onVerdict v b
+verdict-same (J.Good n m) a b h = absurd (h n m refl)
+verdict-same (J.Broken p) a b h = refl
+verdict-same (J.Tag p) a b h = refl
+verdict-same (J.Size p) a b h = refl
+verdict-same (J.Field p) a b h = refl
+verdict-same (J.Wiring p) a b h = refl
+verdict-same (J.Ends x) a b h = refl
+
+module _ {A : Type 0} {before after : List A} {r : Answer} where
+  carry : {l k : Left A} → l ≡ k → Leaves l before r after → Leaves k before r after
+  carry e p = rw (sym e) p
+
+  -- what a choice leaves, by its test
+  pub leaves-yes : (t : Test) (u w : Left A) → Yes t → Leaves u before r after → Leaves (if? t u w) before r after
+  leaves-yes t u w h = carry (if-yes t w h refl)
+
+  pub leaves-no : (t : Test) (u w : Left A) → No t → Leaves w before r after → Leaves (if? t u w) before r after
+  leaves-no t u w h = carry (if-no t u h refl)
 
 module _ {A : Type 0} (room needed : ℕ) (w before : List A) where
   pub room-short : room < needed → Leaves (inRoom room needed w) before (Room needed) before
-  room-short h = if-short (if-yes (lt room needed) (record { answer = Done needed; written = w }) h refl)
-    where
-      if-short : {l : Left A} → refusal (Room needed) ≡ l → Leaves l before (Room needed) before
-      if-short e = rw (sym e) (record { answers = refl; writes = refl })
+  room-short h = leaves-yes (lt room needed) (refusal (Room needed)) (left (Done needed) w) h (refusal-leaves (Room needed) before)
 
   pub room-enough : {after : List A} → needed ≤ room → length w ≡ needed → after ≡ w ++ drop needed before → Leaves (inRoom room needed w) before (Done needed) after
-  room-enough {after} h e q = if-enough (if-no (lt room needed) (refusal (Room needed)) h refl)
-    where
-      if-enough : {l : Left A} → record { answer = Done needed; written = w } ≡ l → Leaves l before (Done needed) after
-      if-enough f = rw (sym f) (record { answers = refl; writes = q ∙ rw e refl })
+  room-enough h e q = leaves-no (lt room needed) (refusal (Room needed)) (left (Done needed) w) h (record { number = refl; place = refl; writes = q ∙ rw e refl })
+
+-- ---- success says that nothing was refused, and that the buffer has what was to be written
+
+module _ {A : Type 0} {before after : List A} {k : ℕ} where
+  pub done-taken : (a : Answer) {l : Left A} → Leaves (unless a l) before (Done k) after → ((n : ℕ) × (a ≡ Done n)) × Leaves l before (Done k) after
+  done-taken (Done n) p = ((n, refl), p)
+  done-taken Mode p = absurd (let e = p .number in omega arith)
+  done-taken (Broken a) p = absurd (let e = p .number in omega arith)
+  done-taken (Tag a) p = absurd (let e = p .number in omega arith)
+  done-taken (Size a) p = absurd (let e = p .number in omega arith)
+  done-taken (Field a) p = absurd (let e = p .number in omega arith)
+  done-taken (Wiring a) p = absurd (let e = p .number in omega arith)
+  done-taken (Ends x) p = absurd (let e = p .number in omega arith)
+  done-taken (Late x) p = absurd (let e = p .number in omega arith)
+  done-taken (Stalled x) p = absurd (let e = p .number in omega arith)
+  done-taken (Room n) p = absurd (let e = p .number in omega arith)
+  done-taken (Result a) p = absurd (let e = p .number in omega arith)
+
+  pub done-written : (room needed : ℕ) (w : List A) → Leaves (inRoom room needed w) before (Done k) after → (k ≡ needed) × (needed ≤ room) × (after ≡ w ++ drop (length w) before)
+  done-written room needed w =
+      if-cases (λ l. Leaves l before (Done k) after → (k ≡ needed) × (needed ≤ room) × (after ≡ w ++ drop (length w) before)) (lt room needed) (refusal (Room needed)) (left (Done needed) w)
+      (λ h p. absurd (let e = p .number in omega arith))
+      (λ h p. (p .place, h, p .writes))
+
+-- a netlist of which the verdict's answer says Done was taken
+pub verdict-good : (v : Verdict) (a : Answer) {n : ℕ} → onVerdict v a ≡ Done n → ((i : ℕ) × (j : ℕ) × (v ≡ J.Good i j)) × (a ≡ Done n)
+verdict-good (J.Good i j) a e = ((i, j, refl), e)
+verdict-good (J.Broken p) a e = absurd (let f = ap numberOf e in omega arith)
+verdict-good (J.Tag p) a e = absurd (let f = ap numberOf e in omega arith)
+verdict-good (J.Size p) a e = absurd (let f = ap numberOf e in omega arith)
+verdict-good (J.Field p) a e = absurd (let f = ap numberOf e in omega arith)
+verdict-good (J.Wiring p) a e = absurd (let f = ap numberOf e in omega arith)
+verdict-good (J.Ends x) a e = absurd (let f = ap numberOf e in omega arith)

@@ -1,13 +1,15 @@
 -- What a call answers (document 01, "Refusal numbers"), and what it leaves in the buffer that was lent.
-use mathlib.Core.Path.{_≡_, sym, _∙_}
-use mathlib.Core.List.{List, [], _++_}
+use mathlib.Core.Path.{_≡_, refl, sym, _∙_}
+use mathlib.Core.List.{List, [], _∷_, _++_}
 use Prim.Native.Nat.{ℕ}
-use lib.ListN.{length, drop}
+use lib.ListN.{length, drop, getD}
 use Rattle.whole.specs.Pick.{lt, if?}
 use Rattle.netlists.specs.declared.Verdict.{Verdict}
-use Rattle.hozbantir.specs.declared.Answer.{Answer}
-use Rattle.hozbantir.specs.declared.Answer.the-variants.{Done, Mode, Broken, Tag, Size, Field, Wiring, Ends, Late, Stalled, Room, Result}
 use Rattle.netlists.specs.declared.Verdict.the-variants as J
+use Rattle.results.specs.declared.Told.{Told}
+use Rattle.results.specs.declared.Told.the-variants as T
+use Rattle.hozbantir.specs.declared.answers.Answer.{Answer}
+use Rattle.hozbantir.specs.declared.answers.Answer.the-variants.{Done, Mode, Broken, Tag, Size, Field, Wiring, Ends, Late, Stalled, Room, Result}
 
 -- ---- numbers and places
 
@@ -43,46 +45,83 @@ placeOf (Result a) = a
 
 -- ---- what a call leaves
 
--- its answer, and what it writes from the buffer's start
+-- number and place of its answer, and what it writes from the buffer's start
 pub record Left (A : Type 0) : Type 0 where
-  pub answer : Answer
+  pub number : ℕ
+  pub place : ℕ
   pub written : List A
+
+abbrev pub left : {A : Type 0} → Answer → List A → Left A
+left a w = record { number = numberOf a; place = placeOf a; written = w }
 
 -- "A refusal returns number and place and changes no lent byte or number."
 abbrev pub refusal : {A : Type 0} → Answer → Left A
-refusal a = record { answer = a; written = [] }
+refusal a = left a []
 
 -- ROOM: "the buffer is shorter than needed", "needed length". "Success returns 0 and, as place, how many numbers or bytes it wrote".
 abbrev pub inRoom : {A : Type 0} → (room needed : ℕ) → List A → Left A
-inRoom room needed w = if? (lt room needed) (refusal (Room needed)) (record { answer = Done needed; written = w })
+inRoom room needed w = if? (lt room needed) (refusal (Room needed)) (left (Done needed) w)
 
 -- "it changes only those, from the buffer's start": how a call whose buffer held `before` leaves it
 pub record Leaves {A : Type 0} (l : Left A) (before : List A) (r : Answer) (after : List A) : Type 0 where
-  pub answers : r ≡ l .answer
+  pub number : numberOf r ≡ l .number
+  pub place : placeOf r ≡ l .place
   pub writes : after ≡ l .written ++ drop (length (l .written)) before
 
--- so that answer and buffer are determined
+-- ---- what was judged before
+
+-- a refusal stands, and where there is none, l is left
+abbrev pub unless : {A : Type 0} → Answer → Left A → Left A
+unless (Done n) l = l
+unless Mode l = refusal Mode
+unless (Broken a) l = refusal (Broken a)
+unless (Tag a) l = refusal (Tag a)
+unless (Size a) l = refusal (Size a)
+unless (Field a) l = refusal (Field a)
+unless (Wiring a) l = refusal (Wiring a)
+unless (Ends x) l = refusal (Ends x)
+unless (Late x) l = refusal (Late x)
+unless (Stalled x) l = refusal (Stalled x)
+unless (Room n) l = refusal (Room n)
+unless (Result a) l = refusal (Result a)
+
+-- the netlist's refusals, 2 to 7, which every call gives; where it is taken, what comes next
+abbrev pub onVerdict : Verdict → Answer → Answer
+onVerdict (J.Good n m) a = a
+onVerdict (J.Broken p) a = Broken p
+onVerdict (J.Tag p) a = Tag p
+onVerdict (J.Size p) a = Size p
+onVerdict (J.Field p) a = Field p
+onVerdict (J.Wiring p) a = Wiring p
+onVerdict (J.Ends x) a = Ends x
+
+-- RESULT: "the result breaks the rules below", "record's offset"
+abbrev pub onTold : Told → Answer → Answer
+onTold (T.Result m t k) a = a
+onTold (T.Wrong p) a = Result p
+
+-- ---- number and place tell the answer, so that answer and buffer are determined
+
+answerOf : ℕ → ℕ → Answer
+answerOf n p = getD (Done p ∷ Mode ∷ Broken p ∷ Tag p ∷ Size p ∷ Field p ∷ Wiring p ∷ Ends p ∷ Late p ∷ Stalled p ∷ Room p ∷ []) n (Result p)
+
+answer-is : (r : Answer) → answerOf (numberOf r) (placeOf r) ≡ r
+unfolding answerOf
+answer-is (Done n) = refl
+answer-is Mode = refl
+answer-is (Broken a) = refl
+answer-is (Tag a) = refl
+answer-is (Size a) = refl
+answer-is (Field a) = refl
+answer-is (Wiring a) = refl
+answer-is (Ends x) = refl
+answer-is (Late x) = refl
+answer-is (Stalled x) = refl
+answer-is (Room n) = refl
+answer-is (Result a) = refl
+
+pub answer-one : {r r′ : Answer} → numberOf r ≡ numberOf r′ → placeOf r ≡ placeOf r′ → r ≡ r′
+answer-one {r} {r′} e f = sym (answer-is r) ∙ rw (e, f) (answer-is r′)
+
 pub leaves-one : {A : Type 0} {l : Left A} {before after after′ : List A} {r r′ : Answer} → Leaves l before r after → Leaves l before r′ after′ → (r ≡ r′) × (after ≡ after′)
-leaves-one p q = (p .answers ∙ sym (q .answers), p .writes ∙ sym (q .writes))
-
--- ---- the netlist's refusals
-
--- 2 to 7, which every call gives; none where the netlist is taken
-abbrev pub refusedBy : Verdict → Answer
-refusedBy (J.Good n m) = Done 0
-refusedBy (J.Broken a) = Broken a
-refusedBy (J.Tag a) = Tag a
-refusedBy (J.Size a) = Size a
-refusedBy (J.Field a) = Field a
-refusedBy (J.Wiring a) = Wiring a
-refusedBy (J.Ends x) = Ends x
-
--- what is left where the netlist is judged so, and l where it is taken
-abbrev pub onVerdict : {A : Type 0} → Verdict → Left A → Left A
-onVerdict (J.Good n m) l = l
-onVerdict (J.Broken a) l = refusal (Broken a)
-onVerdict (J.Tag a) l = refusal (Tag a)
-onVerdict (J.Size a) l = refusal (Size a)
-onVerdict (J.Field a) l = refusal (Field a)
-onVerdict (J.Wiring a) l = refusal (Wiring a)
-onVerdict (J.Ends x) l = refusal (Ends x)
+leaves-one p q = (answer-one (p .number ∙ sym (q .number)) (p .place ∙ sym (q .place)), p .writes ∙ sym (q .writes))

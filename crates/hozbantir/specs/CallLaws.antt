@@ -1,45 +1,79 @@
--- How the code meets the calls: from what the reader of netlists says.
+-- How the code meets the calls: from what the reader of netlists says, and the judge of results.
 use mathlib.Core.Path.{_≡_, refl, sym, _∙_}
+use mathlib.Core.Bool.{true, false}
 use mathlib.Core.List.{List}
 use Prim.Native.Nat.{ℕ}
 use lib.IntN.{ℤ}
 use lib.ListN.{length, take}
-use Rattle.circuit.specs.Netlist.{netlist}
-use Rattle.circuit.specs.Times.{slacks}
+use Rattle.circuit.specs.Budget.{known}
 use Rattle.netlists.specs.declared.Verdict.{Verdict}
 use Rattle.netlists.specs.declared.Verdict.the-variants as J
-use Rattle.netlists.specs.Judge.{netOn, boardOf, judgeOf}
+use Rattle.netlists.specs.Judge.{boardOf, judgeOf}
 use Rattle.netlists.specs.Held.{Arrays, Board-in, Judges}
-use Rattle.netlists.specs.Accepted.{accepted}
-use Rattle.hozbantir.specs.declared.Answer.{Answer}
-use Rattle.hozbantir.specs.Answers.{Left, refusedBy, onVerdict, inRoom, Leaves, leaves-one}
-use Rattle.hozbantir.specs.Calls.{analysisOn, analysisOf, Analyses}
+use Rattle.hozbantir.specs.declared.answers.Answer.{Answer}
+use Rattle.hozbantir.specs.declared.answers.Answer.the-variants.{Done, Mode}
+use Rattle.hozbantir.specs.Answers.{Left, onVerdict, unless, Leaves, leaves-one}
+use Rattle.hozbantir.specs.AnswerLaws.{Refused, refusal-leaves, unless-refused, verdict-refused, verdict-same, leaves-yes, leaves-no}
+use Rattle.hozbantir.specs.Calls.{takenOf, analysisOn, analysisOf, Analyses, budgetOn, budgetFor, Budgets, resultOn, bothOf, ReadsBack}
+use Rattle.hozbantir.specs.Taken.{netIn}
 
--- a netlist that is not taken
-leaves-refused : {A : Type 0} (v : Verdict) (l : Left A) (before : List A) → ((n m : ℕ) → v ≡ J.Good n m → ⊥) → Leaves (onVerdict v l) before (refusedBy v) before
-leaves-refused (J.Good n m) l before h = absurd (h n m refl)
-leaves-refused (J.Broken a) l before h = record { answers = refl; writes = refl }
-leaves-refused (J.Tag a) l before h = record { answers = refl; writes = refl }
-leaves-refused (J.Size a) l before h = record { answers = refl; writes = refl }
-leaves-refused (J.Field a) l before h = record { answers = refl; writes = refl }
-leaves-refused (J.Wiring a) l before h = record { answers = refl; writes = refl }
-leaves-refused (J.Ends x) l before h = record { answers = refl; writes = refl }
+module _ {s : List ℕ} {v : Verdict} {a : Arrays} (j : Judges s v a) where
+  -- a netlist that is not taken, whatever would come next
+  module _ {r : Answer} (h : (n m : ℕ) → v ≡ J.Good n m → ⊥) (e : r ≡ onVerdict v (Done 0)) where
+    refused-is : (b : Answer) → (r ≡ onVerdict (judgeOf s) b) × Refused r
+    refused-is b = (e ∙ verdict-same v (Done 0) b h ∙ rw (j .judged) refl, rw e (verdict-refused v (Done 0) h))
 
-module _ {s : List ℕ} {v : Verdict} {a : Arrays} (j : Judges s v a) (before : List ℤ) where
-  pub analyses-refused : {r : Answer} → ((n m : ℕ) → v ≡ J.Good n m → ⊥) → r ≡ refusedBy v → Analyses s before r before
-  unfolding analysisOf
-  analyses-refused h e = rw (e, j .judged) (rw (j .judged) at (leaves-refused v (analysisOn (boardOf s) (length before)) before h))
+    refused-leaves : {A : Type 0} (l : Left A) (before : List A) → Leaves (unless (takenOf s) l) before r before
+    unfolding takenOf
+    refused-leaves l before = let (q, f) = refused-is (Done (length (boardOf s .kinds))) in rw (sym q) (unless-refused r l before f)
 
-  pub analyses-taken : {n m : ℕ} {r : Answer} {after : List ℤ} → v ≡ J.Good n m
-      → Leaves (inRoom (length before) n (slacks (netlist (take n (a .ks)) (take n (a .tm)) (take m (a .fs)) (take m (a .ts))) (take n (a .bs)))) before r after → Analyses s before r after
-  unfolding analysisOf
-  analyses-taken {n} {m} {r} {after} e l =
-      let b : Board-in (boardOf s) n m a = rw e at (j .decodes) in
-      let k : judgeOf s ≡ J.Good n m = sym (j .judged) ∙ e in
-      let p = accepted s k .parts-are in
-      let q : Leaves (inRoom (length before) n (slacks (netOn (boardOf s)) (boardOf s .bases))) before r after = rw (b .kinds, b .times, b .froms, b .tos, b .bases) at l in
-      rw k (rw p at q)
+    pub analyses-refused : (before : List ℤ) → Analyses s before r before
+    unfolding analysisOf
+    analyses-refused before = refused-leaves _ before
 
--- netlist and buffer determine the answer and what the buffer holds after
+    pub budgets-refused : (m : ℕ) (before : List ℕ) → known m ≡ true → Budgets m s before r before
+    unfolding budgetFor
+    budgets-refused m before k = leaves-yes _ _ _ k (refused-leaves _ before)
+
+    pub both-refused : (q : List ℕ) → (r ≡ bothOf s q) × Refused r
+    unfolding bothOf
+    both-refused q = refused-is _
+
+  -- one that is, in the first places of the arrays
+  module _ {n m : ℕ} (e : v ≡ J.Good n m) where
+    good : judgeOf s ≡ J.Good n m
+    good = sym (j .judged) ∙ e
+
+    taken : Board-in (boardOf s) n m a
+    taken = rw e at (j .decodes)
+
+    taken-leaves : {A : Type 0} {l : Left A} {before after : List A} {r : Answer} → Leaves l before r after → Leaves (unless (takenOf s) l) before r after
+    unfolding takenOf
+    taken-leaves p = rw good p
+
+    pub analyses-taken : {before after : List ℤ} {r : Answer} → Leaves (analysisOn (netIn n m a) (take n (a .bs)) (length before)) before r after → Analyses s before r after
+    unfolding analysisOf
+    analyses-taken p = let b = taken in taken-leaves (rw (b .kinds, b .times, b .froms, b .tos, b .bases) at p)
+
+    pub budgets-taken : (k : ℕ) {before after : List ℕ} {r : Answer} → known k ≡ true → Leaves (budgetOn k (netIn n m a) (take n (a .bs)) (length before)) before r after → Budgets k s before r after
+    unfolding budgetFor
+    budgets-taken k h p = let b = taken in leaves-yes _ _ _ h (taken-leaves (rw (b .kinds, b .times, b .froms, b .tos, b .bases) at p))
+
+    pub both-taken : (q : List ℕ) {r : Answer} → r ≡ resultOn (take n (a .ks)) (take n (a .bs)) q → r ≡ bothOf s q
+    unfolding bothOf
+    both-taken q p = let b = taken in rw good (rw (b .kinds, b .bases) at p)
+
+pub budgets-mode : (m : ℕ) (s before : List ℕ) → known m ≡ false → Budgets m s before Mode before
+unfolding budgetFor
+budgets-mode m s before k = leaves-no _ _ _ k (refusal-leaves Mode before)
+
+-- ---- what goes in determines the answer and what the buffer holds after
+
 pub analyses-one : (s : List ℕ) {before after after′ : List ℤ} {r r′ : Answer} → Analyses s before r after → Analyses s before r′ after′ → (r ≡ r′) × (after ≡ after′)
 analyses-one s = leaves-one
+
+pub budgets-one : (m : ℕ) (s : List ℕ) {before after after′ : List ℕ} {r r′ : Answer} → Budgets m s before r after → Budgets m s before r′ after′ → (r ≡ r′) × (after ≡ after′)
+budgets-one m s = leaves-one
+
+pub reads-one : (s q : List ℕ) {before after after′ : List ℕ} {r r′ : Answer} → ReadsBack s q before r after → ReadsBack s q before r′ after′ → (r ≡ r′) × (after ≡ after′)
+reads-one s q = leaves-one

@@ -3,5 +3,8 @@ pub mod Calls
 pub mod AnswerLaws
 pub mod Taken
 pub mod Slacks
+pub mod Tags
+pub mod Budgeting
 pub mod CallLaws
+pub mod Reading
 pub mod AnalyseLaws

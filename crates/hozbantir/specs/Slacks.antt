@@ -1,9 +1,9 @@
 -- Slacks of a netlist that the reader took, as the code works them out.
 use mathlib.Core.Path.{_≡_, refl, sym, _∙_}
-use mathlib.Core.List.{List}
-use Prim.Native.Nat.{ℕ}
+use mathlib.Core.List.{List, _++_}
+use Prim.Native.Nat.{ℕ, _<_, _≤_}
 use lib.IntN.{ℤ}
-use lib.ListN.{length}
+use lib.ListN.{length, drop}
 use Rattle.whole.specs.Whole.{whole}
 use Rattle.circuit.specs.Lists.{tabulate}
 use Rattle.circuit.specs.ListLaws.{length-tabulate}
@@ -15,6 +15,10 @@ use Rattle.circuit.specs.SafeLaws.{slack-range}
 use Rattle.timing.specs.Ready.{Ready, Gauged, Narrow}
 use Rattle.timing.specs.Bounds.{times-gauged}
 use Rattle.rounds.specs.Budgets.{given-ready}
+use Rattle.hozbantir.specs.declared.answers.Answer.the-variants.{Done, Room}
+use Rattle.hozbantir.specs.Answers.{Leaves}
+use Rattle.hozbantir.specs.AnswerLaws.{room-short, room-enough}
+use Rattle.hozbantir.specs.Calls.{analysisOn}
 use Rattle.hozbantir.specs.Taken.{Taken, taken-given}
 
 -- as many places for slacks, arrivals and required times as there are components
@@ -41,3 +45,14 @@ module _ {n : Netlist} {b : List ℤ} (t : Taken n b) where
 pub length-slacks : (n : Netlist) (b : List ℤ) → length (slacks n b) ≡ parts n
 unfolding slacks
 length-slacks n b = length-tabulate _ (parts n)
+
+-- ---- what analyse leaves
+
+module _ (n : Netlist) (b before : List ℤ) {k : ℕ} (e : k ≡ parts n) where
+  pub analysis-short : length before < k → Leaves (analysisOn n b (length before)) before (Room k) before
+  unfolding analysisOn
+  analysis-short h = rw (sym e) (room-short (length before) k (slacks n b) before h)
+
+  pub analysis-done : {after : List ℤ} → k ≤ length before → after ≡ slacks n b ++ drop k before → Leaves (analysisOn n b (length before)) before (Done k) after
+  unfolding analysisOn
+  analysis-done h q = rw (sym e) (room-enough (length before) k (slacks n b) before h (length-slacks n b ∙ sym e) q)

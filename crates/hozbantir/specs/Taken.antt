@@ -13,8 +13,11 @@ use Rattle.rounds.specs.Budgets.{Given}
 use Rattle.netlists.specs.declared.Verdict.{Verdict}
 use Rattle.netlists.specs.declared.Verdict.the-variants.{Good}
 use Rattle.netlists.specs.Held.{Arrays, LongParts, LongWires, Board-in, Judges}
-use Rattle.netlists.specs.Judge.{boardOf}
+use Rattle.netlists.specs.Judge.{netOn, boardOf, judgeOf}
 use Rattle.netlists.specs.Accepted.{accepted}
+use Rattle.hozbantir.specs.declared.answers.Answer.the-variants.{Done}
+use Rattle.hozbantir.specs.AnswerLaws.{verdict-good}
+use Rattle.hozbantir.specs.Calls.{takenOf}
 
 -- an accepted netlist, and its base delays
 pub record Taken (n : Netlist) (b : List ℤ) : Type 0 where
@@ -24,14 +27,28 @@ pub record Taken (n : Netlist) (b : List ℤ) : Type 0 where
 pub taken-given : {n : Netlist} {sv : List ℕ} {b : List ℤ} → Taken n b → sv ≡ servedOf (n .kinds) → Given n sv b
 taken-given t e = record { accepted = t .accepted; based = t .based; marks = e }
 
--- such a netlist in the first places of the reader's arrays
+-- what the netlist file s says of its circuit, where it is taken
+pub accepted-taken : (s : List ℕ) {n m : ℕ} → judgeOf s ≡ Good n m → Taken (netOn (boardOf s)) (boardOf s .bases)
+accepted-taken s e = let q = accepted s e in record { accepted = record { judged = q .judged; ordered = rising-order (q .rising) (q .judged .sorted) }; based = q .based }
+
+pub said-taken : (s : List ℕ) {n : ℕ} → takenOf s ≡ Done n → Taken (netOn (boardOf s)) (boardOf s .bases)
+unfolding takenOf
+said-taken s e = accepted-taken s (verdict-good (judgeOf s) (Done (length (boardOf s .kinds))) e .0 .2)
+
+-- the netlist in the first places of the reader's arrays
+abbrev pub netIn : (n m : ℕ) → Arrays → Netlist
+netIn n m a = netlist (take n (a .ks)) (take n (a .tm)) (take m (a .fs)) (take m (a .ts))
+
 pub record Filled (n m : ℕ) (a : Arrays) : Type 0 where
-  pub taken : Taken (netlist (take n (a .ks)) (take n (a .tm)) (take m (a .fs)) (take m (a .ts))) (take n (a .bs))
+  pub taken : Taken (netIn n m a) (take n (a .bs))
   pub kinds-all : n ≤ length (a .ks)
   pub bases-all : n ≤ length (a .bs)
   pub times-all : n ≤ length (a .tm)
   pub froms-all : m ≤ length (a .fs)
   pub tos-all : m ≤ length (a .ts)
+
+pub filled-few : {n m : ℕ} {a : Arrays} → Filled n m a → n ≤ 1024
+filled-few {n} {a = a} f = omega (arith, f .taken .accepted .judged .few, length-take-le n (a .ks) (f .kinds-all))
 
 pub good-filled : {s : List ℕ} {v : Verdict} {n m : ℕ} {a : Arrays} → v ≡ Good n m → Judges s v a → LongParts (a .ks) (a .bs) (a .tm) → LongWires (a .fs) (a .ts) → Filled n m a
 good-filled {s} {v} {n} {m} {a} e j p w =
@@ -40,7 +57,7 @@ good-filled {s} {v} {n} {m} {a} e j p w =
     let few : n ≤ 1024 = rw (q .parts-are) (q .judged .few) in
     let fewer : m ≤ 4096 = rw (q .wires-are) (q .judged .wired .few) in
     record {
-      taken = rw (b .kinds, b .times, b .froms, b .tos, b .bases) (record { accepted = record { judged = q .judged; ordered = rising-order (q .rising) (q .judged .sorted) }; based = q .based });
+      taken = rw (b .kinds, b .times, b .froms, b .tos, b .bases) (accepted-taken s (sym (j .judged) ∙ e));
       kinds-all = rw (p .ks-long) few;
       bases-all = rw (p .bs-long) few;
       times-all = rw (p .tm-long) few;

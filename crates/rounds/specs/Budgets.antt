@@ -34,6 +34,22 @@ answerOf (C.LateAt x) = Late x
 answerOf (C.StalledAt x) = Stalled x
 answerOf (C.Budgeted t k l) = Budget t k
 
+-- which tells the outcome
+pub answer-late : {x : ℕ} (o : C.Outcome) → Late x ≡ answerOf o → o ≡ C.LateAt x
+answer-late (C.LateAt y) e = cc
+answer-late (C.StalledAt y) e = absurd (let z : _≡_ {A = ℕ} 0 1 = cc in omega arith)
+answer-late (C.Budgeted t k l) e = absurd (let z : _≡_ {A = ℕ} 0 1 = cc in omega arith)
+
+pub answer-stalled : {x : ℕ} (o : C.Outcome) → Stalled x ≡ answerOf o → o ≡ C.StalledAt x
+answer-stalled (C.LateAt y) e = absurd (let z : _≡_ {A = ℕ} 0 1 = cc in omega arith)
+answer-stalled (C.StalledAt y) e = cc
+answer-stalled (C.Budgeted t k l) e = absurd (let z : _≡_ {A = ℕ} 0 1 = cc in omega arith)
+
+pub answer-budget : {t k : ℕ} (o : C.Outcome) → Budget t k ≡ answerOf o → (l : List ℕ) × (o ≡ C.Budgeted t k l)
+answer-budget (C.LateAt y) e = absurd (let z : _≡_ {A = ℕ} 0 1 = cc in omega arith)
+answer-budget (C.StalledAt y) e = absurd (let z : _≡_ {A = ℕ} 0 1 = cc in omega arith)
+answer-budget (C.Budgeted t k l) e = (l, cc)
+
 -- of the mode m, netlist n and base delays b: the answer, and the final delays where there is a budget
 pub record Budgets (m : ℕ) (n : Netlist) (b f : List ℤ) (r : Outcome) : Type 0 where
   pub answer : r ≡ answerOf (budgetOf m n b)

@@ -5,3 +5,4 @@ pub mod Run
 pub mod End
 pub mod EndLaws
 pub mod Budgets
+pub mod Increments

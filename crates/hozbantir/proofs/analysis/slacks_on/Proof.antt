@@ -1,7 +1,7 @@
 use Rattle.hozbantir.specs.Slacks.{taken-ready, taken-slacks, slacks-are}
 use borrow.Author.Needs.{needs}
-use Rattle.hozbantir.proofs.slacks_on.Statement.{statement}
-use Rattle.hozbantir.proofs.slacks_on.Tie as tie
+use Rattle.hozbantir.proofs.analysis.slacks_on.Statement.{statement}
+use Rattle.hozbantir.proofs.analysis.slacks_on.Tie as tie
 
 arrivals-in-requires : tie.Need-arrivals-in-requires
 arrivals-in-requires c κs = let p = c .before .before .before .before .pre in (taken-ready (p .0), p .1 .arrs-all)

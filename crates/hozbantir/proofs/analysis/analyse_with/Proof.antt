@@ -1,20 +1,10 @@
-use Rattle.netlists.proofs.Verdict.{the-type}
-use Rattle.netlists.specs.declared.Verdict.the-variants.{Good}
-use Rattle.netlists.specs.declared.Verdict.{Verdict}
-use denote.Enum.Declared.{tagOf}
-use types.Run.{OneOf, miss}
-use mathlib.Core.Path.{_∙_, _≡_}
-use mathlib.Core.List.{[], _∷_}
-use Prim.Native.Nat.{ℕ}
+use mathlib.Core.Path.{_∙_}
+use Rattle.hozbantir.specs.Tags.{not-good}
 use Rattle.hozbantir.specs.CallLaws.{analyses-refused, analyses-taken}
 use Rattle.hozbantir.specs.Taken.{good-filled}
 use borrow.Author.Needs.{needs}
-use Rattle.hozbantir.proofs.analyse_with.Statement.{statement}
-use Rattle.hozbantir.proofs.analyse_with.Tie as tie
-
--- what is known past the `else`
-not-good : (v : Verdict) → OneOf (1 ∷ 2 ∷ 3 ∷ 4 ∷ 5 ∷ 6 ∷ []) (tagOf the-type v) → (n m : ℕ) → v ≡ Good n m → ⊥
-not-good v k n m e = miss (1 ∷ 2 ∷ 3 ∷ 4 ∷ 5 ∷ 6 ∷ []) 0 tt (rw e at k)
+use Rattle.hozbantir.proofs.analysis.analyse_with.Statement.{statement}
+use Rattle.hozbantir.proofs.analysis.analyse_with.Tie as tie
 
 read-netlist-requires : tie.Need-read-netlist-requires
 read-netlist-requires c κs = search needs
@@ -41,7 +31,7 @@ same-length-5 : tie.Need-same-length-5
 same-length-5 c = search needs
 
 returns : tie.Need-returns
-returns c = analyses-refused (c .before .before .before .before .before .before .before .before .before .before .read-netlist .ensures) _ (not-good _ (c .before .match .keys2)) (c .refused .ensures)
+returns c = analyses-refused (c .before .before .before .before .before .before .before .before .before .before .read-netlist .ensures) (not-good _ (c .before .match .keys2)) (c .refused .ensures) _
 
 analyse-in-requires : tie.Need-analyse-in-requires
 analyse-in-requires c κs = let p = c .before .before .before .before .before .before .before .before .before .before .before .before .before .before .before .before .before .before .before .before .before .before .before .before .before .before .before .pre in
@@ -70,7 +60,7 @@ same-length-11 : tie.Need-same-length-11
 same-length-11 c = search needs
 
 returns-2 : tie.Need-returns-2
-returns-2 c = analyses-taken (c .before .before .before .before .before .before .before .before .before .before .before .before .before .before .before .before .before .before .before .read-netlist .ensures) _ (c .before .before .before .before .before .before .before .before .before .v .given .1) (c .before .analyse-in .ensures)
+returns-2 c = analyses-taken (c .before .before .before .before .before .before .before .before .before .before .before .before .before .before .before .before .before .before .before .read-netlist .ensures) (c .before .before .before .before .before .before .before .before .before .v .given .1) (c .before .analyse-in .ensures)
 
 pub analyse-with-spec : {M : Type 1} → statement M
 analyse-with-spec =

@@ -1,7 +1,7 @@
 use mathlib.Core.Path.{refl}
 use borrow.Author.Needs.{needs}
-use Rattle.hozbantir.proofs.refused.Statement.{statement}
-use Rattle.hozbantir.proofs.refused.Tie as tie
+use Rattle.hozbantir.proofs.answers.refused.Statement.{statement}
+use Rattle.hozbantir.proofs.answers.refused.Tie as tie
 
 enum-told : tie.Need-enum-told
 enum-told c = search needs

@@ -4,8 +4,8 @@ use lib.IntN.{pos}
 use mathlib.Core.Path.{sym}
 use lib.ListN.{length}
 use borrow.Author.Needs.{needs}
-use Rattle.hozbantir.proofs.slacks_in.Statement.{statement}
-use Rattle.hozbantir.proofs.slacks_in.Tie as tie
+use Rattle.hozbantir.proofs.analysis.slacks_in.Statement.{statement}
+use Rattle.hozbantir.proofs.analysis.slacks_in.Tie as tie
 
 array-borrow-prefix-arr : tie.Need-array-borrow-prefix-arr
 array-borrow-prefix-arr c = search needs

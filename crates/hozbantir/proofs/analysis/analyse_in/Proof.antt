@@ -1,14 +1,13 @@
-use Rattle.hozbantir.specs.Slacks.{length-slacks}
-use Rattle.hozbantir.specs.AnswerLaws.{room-short, room-enough}
+use Rattle.hozbantir.specs.Slacks.{analysis-short, analysis-done}
 use denote.Ref.{now}
 use mathlib.Core.Path.{refl, sym, _∙_}
 use lib.Seq.{length-take-le}
 use borrow.Author.Needs.{needs}
-use Rattle.hozbantir.proofs.analyse_in.Statement.{statement}
-use Rattle.hozbantir.proofs.analyse_in.Tie as tie
+use Rattle.hozbantir.proofs.analysis.analyse_in.Statement.{statement}
+use Rattle.hozbantir.proofs.analysis.analyse_in.Tie as tie
 
 returns : tie.Need-returns
-returns c = room-short _ _ _ _ (c .if1 .taken)
+returns c = let a = c .before .before .before .before in analysis-short _ _ (now (a .args .out)) (sym (length-take-le (a .args .n) (now (a .args .kinds)) (a .pre .kinds-all))) (c .if1 .taken)
 
 slice-relend-prefix-slacks-in : tie.Need-slice-relend-prefix-slacks-in
 slice-relend-prefix-slacks-in c = search needs
@@ -38,7 +37,7 @@ same-length : tie.Need-same-length
 same-length c = search needs
 
 returns-2 : tie.Need-returns-2
-returns-2 c = let a = c .before .before .before .before .before .before .before .before .before .before .before .before in room-enough _ (a .args .n) _ (now (a .args .out)) (c .before .before .before .before .before .before .before .before .if1 .left) (length-slacks _ _ ∙ length-take-le (a .args .n) (now (a .args .kinds)) (a .pre .kinds-all)) (rw (c .before .slacks-in .ensures) refl)
+returns-2 c = let a = c .before .before .before .before .before .before .before .before .before .before .before .before in analysis-done _ _ (now (a .args .out)) (sym (length-take-le (a .args .n) (now (a .args .kinds)) (a .pre .kinds-all))) (c .before .before .before .before .before .before .before .before .if1 .left) (rw (c .before .slacks-in .ensures) refl)
 
 pub analyse-in-spec : {M : Type 1} → statement M
 analyse-in-spec =

@@ -1,0 +1,92 @@
+use Rattle.hozbantir.specs.Budgeting.{mode-known, mode-unknown}
+use Rattle.hozbantir.specs.CallLaws.{budgets-mode, budgets-refused, budgets-taken}
+use Rattle.hozbantir.specs.Tags.{not-good}
+use Rattle.hozbantir.specs.Taken.{good-filled}
+use mathlib.Core.Path.{_∙_}
+use borrow.Author.Needs.{needs}
+use Rattle.hozbantir.proofs.budgeting.budget_with.Statement.{statement}
+use Rattle.hozbantir.proofs.budgeting.budget_with.Tie as tie
+
+returns : tie.Need-returns
+returns c = budgets-mode _ _ _ (mode-unknown (c .if1 .taken))
+
+read-netlist-requires : tie.Need-read-netlist-requires
+read-netlist-requires c κs = search needs
+
+enum-known-v : tie.Need-enum-known-v
+enum-known-v c = search needs
+
+refused-requires : tie.Need-refused-requires
+refused-requires c κs = search needs
+
+same-length : tie.Need-same-length
+same-length c = search needs
+
+same-length-2 : tie.Need-same-length-2
+same-length-2 c = search needs
+
+same-length-3 : tie.Need-same-length-3
+same-length-3 c = search needs
+
+same-length-4 : tie.Need-same-length-4
+same-length-4 c = search needs
+
+same-length-5 : tie.Need-same-length-5
+same-length-5 c = search needs
+
+returns-2 : tie.Need-returns-2
+returns-2 c = budgets-refused (c .before .before .before .before .before .before .before .before .before .before .read-netlist .ensures) (not-good _ (c .before .match .keys2)) (c .refused .ensures) _ _ (mode-known (c .before .before .before .before .before .before .before .before .before .before .before .before .before .before .before .before .if1 .left))
+
+budget-in-requires : tie.Need-budget-in-requires
+budget-in-requires c κs = let p = c .before .before .before .before .before .before .before .before .before .before .before .before .before .before .before .before .before .before .before .before .before .before .before .before .before .before .before .before .before .pre in
+    let r = c .before .before .before .before .before .before .before .before .before .before .before .before .before .before .before .before .before .read-netlist in
+    let l = r .kept .1 in (
+      good-filled (c .before .before .before .before .before .before .before .v .given .1) (r .ensures)
+          (record { ks-long = l .0 ∙ p .0 .ks-long; bs-long = l .1 .0 ∙ p .0 .bs-long; tm-long = l .1 .1 .0 ∙ p .0 .tm-long })
+          (record { fs-long = l .1 .1 .1 .0 ∙ p .1 .fs-long; ts-long = l .1 .1 .1 .1 .0 ∙ p .1 .ts-long }),
+      c .before .before .before .before .before .before .before .before .before .before .before .before .before .before .before .before .before .before .before .before .before .before .before .if1 .left,
+    )
+
+same-length-6 : tie.Need-same-length-6
+same-length-6 c = search needs
+
+same-length-7 : tie.Need-same-length-7
+same-length-7 c = search needs
+
+same-length-8 : tie.Need-same-length-8
+same-length-8 c = search needs
+
+same-length-9 : tie.Need-same-length-9
+same-length-9 c = search needs
+
+same-length-10 : tie.Need-same-length-10
+same-length-10 c = search needs
+
+same-length-11 : tie.Need-same-length-11
+same-length-11 c = search needs
+
+returns-3 : tie.Need-returns-3
+returns-3 c = budgets-taken (c .before .before .before .before .before .before .before .before .before .before .before .before .before .before .before .before .before .before .before .before .read-netlist .ensures) (c .before .before .before .before .before .before .before .before .before .before .v .given .1) _ (mode-known (c .before .before .before .before .before .before .before .before .before .before .before .before .before .before .before .before .before .before .before .before .before .before .before .before .before .before .if1 .left)) (c .before .before .budget-in .ensures)
+
+pub budget-with-spec : {M : Type 1} → statement M
+budget-with-spec =
+    tie.close
+    (tie.spec
+    returns
+    read-netlist-requires
+    enum-known-v
+    refused-requires
+    same-length
+    same-length-2
+    same-length-3
+    same-length-4
+    same-length-5
+    returns-2
+    budget-in-requires
+    same-length-6
+    same-length-7
+    same-length-8
+    same-length-9
+    same-length-10
+    same-length-11
+    returns-3)
