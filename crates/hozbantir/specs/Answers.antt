@@ -124,4 +124,7 @@ pub answer-one : {r r′ : Answer} → numberOf r ≡ numberOf r′ → placeOf 
 answer-one {r} {r′} e f = sym (answer-is r) ∙ rw (e, f) (answer-is r′)
 
 pub leaves-one : {A : Type 0} {l : Left A} {before after after′ : List A} {r r′ : Answer} → Leaves l before r after → Leaves l before r′ after′ → (r ≡ r′) × (after ≡ after′)
-leaves-one p q = (answer-one (p .number ∙ sym (q .number)) (p .place ∙ sym (q .place)), p .writes ∙ sym (q .writes))
+leaves-one p q =
+    let e = p .writes in
+    let f = q .writes in
+    (answer-one (p .number ∙ sym (q .number)) (p .place ∙ sym (q .place)), cc)

@@ -12,9 +12,9 @@ use Rattle.netlists.specs.Judge.{boardOf, judgeOf}
 use Rattle.netlists.specs.Held.{Arrays, Board-in, Judges}
 use Rattle.hozbantir.specs.declared.answers.Answer.{Answer}
 use Rattle.hozbantir.specs.declared.answers.Answer.the-variants.{Done, Mode}
-use Rattle.hozbantir.specs.Answers.{Left, onVerdict, unless, Leaves, leaves-one}
+use Rattle.hozbantir.specs.Answers.{Left, onVerdict, unless, Leaves}
 use Rattle.hozbantir.specs.AnswerLaws.{Refused, refusal-leaves, unless-refused, verdict-refused, verdict-same, leaves-yes, leaves-no}
-use Rattle.hozbantir.specs.Calls.{takenOf, analysisOn, analysisOf, Analyses, budgetOn, budgetFor, Budgets, resultOn, bothOf, ReadsBack}
+use Rattle.hozbantir.specs.Calls.{takenOf, analysisOn, analysisOf, Analyses, budgetOn, budgetFor, Budgets, resultOn, bothOf}
 use Rattle.hozbantir.specs.Taken.{netIn}
 
 module _ {s : List ℕ} {v : Verdict} {a : Arrays} (j : Judges s v a) where
@@ -66,14 +66,3 @@ module _ {s : List ℕ} {v : Verdict} {a : Arrays} (j : Judges s v a) where
 pub budgets-mode : (m : ℕ) (s before : List ℕ) → known m ≡ false → Budgets m s before Mode before
 unfolding budgetFor
 budgets-mode m s before k = leaves-no _ _ _ k (refusal-leaves Mode before)
-
--- ---- what goes in determines the answer and what the buffer holds after
-
-pub analyses-one : (s : List ℕ) {before after after′ : List ℤ} {r r′ : Answer} → Analyses s before r after → Analyses s before r′ after′ → (r ≡ r′) × (after ≡ after′)
-analyses-one s = leaves-one
-
-pub budgets-one : (m : ℕ) (s : List ℕ) {before after after′ : List ℕ} {r r′ : Answer} → Budgets m s before r after → Budgets m s before r′ after′ → (r ≡ r′) × (after ≡ after′)
-budgets-one m s = leaves-one
-
-pub reads-one : (s q : List ℕ) {before after after′ : List ℕ} {r r′ : Answer} → ReadsBack s q before r after → ReadsBack s q before r′ after′ → (r ≡ r′) × (after ≡ after′)
-reads-one s q = leaves-one

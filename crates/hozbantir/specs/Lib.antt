@@ -7,4 +7,11 @@ pub mod Tags
 pub mod Budgeting
 pub mod CallLaws
 pub mod Reading
+pub mod Fair
+pub mod Exports
+pub mod Spreading
+pub mod Determined
 pub mod AnalyseLaws
+pub mod BudgetLaws
+pub mod Demands
+pub mod DemandLaws

@@ -23,7 +23,7 @@ use Rattle.hozbantir.specs.declared.answers.Answer.{Answer}
 use Rattle.hozbantir.specs.declared.answers.Answer.the-variants.{Done, Room, Result}
 use Rattle.hozbantir.specs.Answers.{numberOf, placeOf, inRoom, onVerdict, onTold, Leaves}
 use Rattle.hozbantir.specs.AnswerLaws.{Refused, unless-refused, verdict-good, room-short, room-enough}
-use Rattle.hozbantir.specs.Calls.{resultOn, bothOf, saidOf, boundsOn, readBackOf, ReadsBack}
+use Rattle.hozbantir.specs.Calls.{takenOf, resultOn, bothOf, saidOf, boundsOn, readBackOf, ReadsBack}
 use Rattle.hozbantir.specs.CallLaws.{both-refused, both-taken}
 use Rattle.hozbantir.specs.Taken.{Taken, accepted-taken}
 use Rattle.hozbantir.specs.Budgeting.{taken-bases, taken-columns}
@@ -76,6 +76,12 @@ both-agree s q e =
     let (good, done) = verdict-good (judgeOf s) (resultOn (boardOf s .kinds) (boardOf s .bases) q) e in
     let ((m, t, k, told), count) = result-taken (boardOf s .kinds) (boardOf s .bases) q done in
     (m, t, k, record { taken = accepted-taken s (good .2); count = count; told = told })
+
+pub agree-both : (s q : List ℕ) {n m t k : ℕ} → takenOf s ≡ Done n → toldOf q (servedOf (boardOf s .kinds)) (boardOf s .bases) ≡ T.Result m t k → bothOf s q ≡ Done (length (boardOf s .kinds))
+unfolding takenOf bothOf resultOn
+agree-both s q e told =
+    let good = verdict-good (judgeOf s) (Done (length (boardOf s .kinds))) e .0 .2 in
+    rw (good, told)
 
 -- what the arrays hold of them
 pub record Told-in (s q : List ℕ) (n : ℕ) (bs : List ℤ) (sv incs : List ℕ) : Type 0 where

@@ -35,6 +35,10 @@ pub said-taken : (s : List ℕ) {n : ℕ} → takenOf s ≡ Done n → Taken (ne
 unfolding takenOf
 said-taken s e = accepted-taken s (verdict-good (judgeOf s) (Done (length (boardOf s .kinds))) e .0 .2)
 
+pub taken-count : (s : List ℕ) {n : ℕ} → takenOf s ≡ Done n → takenOf s ≡ Done (length (boardOf s .kinds))
+unfolding takenOf
+taken-count s e = e ∙ sym (verdict-good (judgeOf s) (Done (length (boardOf s .kinds))) e .1)
+
 -- the netlist in the first places of the reader's arrays
 abbrev pub netIn : (n m : ℕ) → Arrays → Netlist
 netIn n m a = netlist (take n (a .ks)) (take n (a .tm)) (take m (a .fs)) (take m (a .ts))

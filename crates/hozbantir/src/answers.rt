@@ -1,7 +1,7 @@
 // What a call answers.
 ghost use mathlib.Core.Path.{_≡_};
 ghost use Rattle.hozbantir.specs.declared.answers.Answer.the-variants.{Done};
-ghost use Rattle.hozbantir.specs.Answers.{onVerdict};
+ghost use Rattle.hozbantir.specs.Answers.{numberOf, placeOf, onVerdict};
 use netlists::Verdict;
 
 // What a call answers: success, with how many numbers or bytes it wrote, or one of document 01's refusals, with its place.
@@ -32,5 +32,44 @@ pub fn refused(v: Verdict) -> Answer
         Verdict::Field(at) => Answer::Field(at),
         Verdict::Wiring(at) => Answer::Wiring(at),
         Verdict::Ends(x) => Answer::Ends(x),
+    }
+}
+
+// The number of an answer, and its place.
+pub fn number(a: Answer) -> u32
+    ensures { λ r. ⌜ r ≡ numberOf a ⌝ }
+{
+    match a {
+        Answer::Done(_) => 0,
+        Answer::Mode => 1,
+        Answer::Broken(_) => 2,
+        Answer::Tag(_) => 3,
+        Answer::Size(_) => 4,
+        Answer::Field(_) => 5,
+        Answer::Wiring(_) => 6,
+        Answer::Ends(_) => 7,
+        Answer::Late(_) => 8,
+        Answer::Stalled(_) => 9,
+        Answer::Room(_) => 10,
+        Answer::Result(_) => 11,
+    }
+}
+
+pub fn place(a: Answer) -> usize
+    ensures { λ r. ⌜ r ≡ placeOf a ⌝ }
+{
+    match a {
+        Answer::Done(n) => n,
+        Answer::Mode => 0,
+        Answer::Broken(at) => at,
+        Answer::Tag(at) => at,
+        Answer::Size(at) => at,
+        Answer::Field(at) => at,
+        Answer::Wiring(at) => at,
+        Answer::Ends(x) => x,
+        Answer::Late(x) => x,
+        Answer::Stalled(x) => x,
+        Answer::Room(n) => n,
+        Answer::Result(at) => at,
     }
 }

@@ -156,16 +156,7 @@ withEnds b (Ends x) = Ends x
 unfoldable pub judgeOf : List ℕ → Verdict
 judgeOf s = withEnds (boardOf s) (recordsOf s)
 
--- "No. | Name": the number of a refusal, 0 where there is none; and its place
-abbrev pub numberOf : Verdict → ℕ
-numberOf (Good n m) = 0
-numberOf (Broken a) = 2
-numberOf (Tag a) = 3
-numberOf (Size a) = 4
-numberOf (Field a) = 5
-numberOf (Wiring a) = 6
-numberOf (Ends x) = 7
-
+-- "Place": of a netlist that is taken, none
 abbrev pub placeOf : Verdict → ℕ
 placeOf (Good n m) = 0
 placeOf (Broken a) = a

@@ -5,12 +5,13 @@ use mathlib.Core.Bool.{Bool, true, false, not, cond, _&&_, _||_}
 use mathlib.Core.List.{List, [], _∷_, _++_, append-assoc, append-nil}
 use Prim.Native.Nat.{ℕ, suc, _+_, _%_, _≤_, _<_}
 use native.Mathlib.Omega.{arith}
+use native.Mathlib.Decide.{ℕ-discrete}
 use native.Mathlib.Nat.{add-zero, add-assoc}
 use lib.Dec.{eqb, leb}
 use lib.IntN.{ℤ}
 use lib.ListN.{length, getD, take, drop, length-append}
 use lib.Seq.{append-snoc, drop-at, drop-drop, getD-drop}
-use borrow.Author.Tests.{eq-eqb, eqb-true, le-leb, leb-true}
+use borrow.Author.Tests.{eq-eqb, ne-eqb, eqb-true, le-leb, leb-true}
 use Rattle.whole.specs.Whole.{up}
 use Rattle.whole.specs.Pick.{if-yes, if-no}
 use Rattle.whole.specs.Bytes.{numberAt, bytesOf, number-same, number-in}
@@ -122,6 +123,18 @@ summary-said {m} {t} {k} {limit} e =
     let (b, q) = both (leb t 200000000) ((not (eqb m 0) || eqb t 0) && leb k limit) p in
     let (c, d) = both (not (eqb m 0) || eqb t 0) (leb k limit) q in
     record { mode = leb-true m 1 a; share = leb-true t 200000000 b; plain = plain-share m t c; rounds = leb-true k limit d }
+
+-- and what says so is right
+plain-ok : (m t : ℕ) → (m ≡ 0 → t ≡ 0) → (not (eqb m 0) || eqb t 0) ≡ true
+plain-ok m t h = by (ℕ-discrete m 0)
+  where
+    by : Dec (m ≡ 0) → (not (eqb m 0) || eqb t 0) ≡ true
+    by (yes e) = rw (eq-eqb m 0 e, eq-eqb t 0 (h e))
+    by (no e) = rw (ne-eqb m 0 e)
+
+pub said-summary : {m t k limit : ℕ} → Said m t k limit → summaryOk m t k limit ≡ true
+unfolding summaryOk
+said-summary {m} {t} {k} {limit} s = rw (le-leb m 1 (s .mode), le-leb t 200000000 (s .share), plain-ok m t (s .plain), le-leb k limit (s .rounds))
 
 module _ (m t k limit : ℕ) (h : summaryOk m t k limit ≡ true) (g : limit ≤ 1024) (post : List ℕ) where
   summary-there : recordAt (summaryOf m t k ++ post) 0 ≡ F.Record 16 3 7 10

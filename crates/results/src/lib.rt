@@ -318,7 +318,7 @@ pub fn bounds_in(bounds: &mut [u32], served: &[u8], bases: &[i64], incs: &[u32])
     ensures { λ _. ⌜ now (bounds .exit) ≡ boundsRead (now (served .entry)) (now (bases .entry)) (now (incs .entry)) ⌝ }
 {
     let mut x: usize = 0;
-    while x < served.len() {
+    while x < bounds.len() {
         bounds[x] = bound_of(served[x], bases[x], incs[x]);
         x += 1;
     }

@@ -1,16 +1,10 @@
-// Runs the circuits that document 01 works by hand: A, B and C as netlist files, through the reader and both modes of the budget; and
-// circuits D and E, whose numbers are out of order, through the backward walk.
+// Runs the circuits that document 01 works by hand through the calls: A, B and C as netlist files, slacks, both modes, and each result read back;
+// and circuits D and E, whose numbers are out of order, through the backward walk.
 ghost use mathlib.Core.Path.{_≡_};
 ghost use Prim.Native.Nat.{_+_, _*_, _<_, _≤_};
 ghost use lib.ListN.{length};
-ghost use Rattle.circuit.specs.Netlist.{netlist};
-ghost use Rattle.netlists.specs.Held.{arrays, LongParts, LongWires};
-ghost use Rattle.rounds.specs.Round.{Desk};
 ghost use Rattle.segments.specs.Lent.{Loaded};
-ghost use Rattle.hozbantir.specs.Taken.{Taken, Filled};
-ghost use Rattle.worked.specs.Rows.{Rows};
-use netlists::Verdict;
-use rounds::Outcome;
+use hozbantir::Answer;
 
 // A line is a record: a component's kind, base delay and time, or where a connection comes from and goes to.
 const CIRCUIT_A: [u8; 69] = *b"\
@@ -34,177 +28,119 @@ const CIRCUIT_C: [u8; 76] = *b"\
 
 // ---- the output
 
-fn number(x: usize) {
+fn number(x: u64) {
     io::write_all(1, b" ");
-    io::print_decimal(1, x as u64);
+    io::print_decimal(1, x);
 }
 
-fn amount(x: i64) {
+// By its bits, in two's complement.
+fn signed(x: i32) {
+    let bits = whole::bits32(x);
     io::write_all(1, b" ");
-    io::print_decimal(1, whole::unsigned(x));
+    if bits < 2147483648 {
+        io::print_decimal(1, bits as u64);
+    } else {
+        io::write_all(1, b"-");
+        io::print_decimal(1, 4294967296 - bits as u64);
+    }
 }
 
 fn end_line() {
     io::write_all(1, b"\n");
 }
 
-fn head(mode: u32, share: u32, count: usize) {
-    io::write_all(1, b"mode");
-    number(mode as usize);
+fn answer(a: Answer) {
+    number(hozbantir::number(a) as u64);
+    number(hozbantir::place(a) as u64);
+}
+
+fn slacks(numbers: &[i32]) {
+    let mut i = 0;
+    while i < numbers.len() {
+        signed(numbers[i]);
+        i += 1;
+    }
+    end_line();
+}
+
+fn bound(x: u32) {
+    number(x as u64);
+}
+
+fn bounds(numbers: &[u32]) {
+    let mut i = 0;
+    while i < numbers.len() {
+        bound(numbers[i]);
+        i += 1;
+    }
+    end_line();
+}
+
+// ---- the calls
+
+// The answer and the whole buffer, which held sevens before.
+fn analysed(netlist: &[u8]) {
+    let mut buffer = [7i32; 4];
+    let a = hozbantir::analyse(netlist, &mut buffer);
+    io::write_all(1, b"slacks");
+    answer(a);
+    slacks(&buffer);
+}
+
+// The result, read back into a buffer of sevens.
+fn read(netlist: &[u8], result: &[u8]) {
+    let mut buffer = [7u32; 4];
+    let a = hozbantir::read_back(netlist, result, &mut buffer);
+    io::write_all(1, b"bounds");
+    answer(a);
+    bounds(&buffer);
+}
+
+// What the summary says.
+fn summary(result: &[u8])
+    requires { ⌜ 10 ≤ length (now result) ⌝ }
+{
     io::write_all(1, b" share");
-    number(share as usize);
+    number(whole::u32_at(result, 4) as u64);
     io::write_all(1, b" rounds");
-    number(count);
+    number(whole::u16_at(result, 8) as u64);
     end_line();
 }
 
-fn row(x: usize, base: i64, bound: i64) {
-    io::print_decimal(1, x as u64);
-    amount(base);
-    amount(bound);
-    end_line();
+fn told(netlist: &[u8], result: &[u8])
+    requires { ⌜ 10 ≤ length (now result) ⌝ }
+{
+    summary(result);
+    read(netlist, result);
 }
 
-// The row of x, if x is served.
-fn row_at(served: &[u8], base: &[i64], bound: &[i64], x: usize)
-    requires { ⌜ (x < length (now served)) × Rows (now served) (now base) (now bound) ⌝ }
-{
-    if served[x] == 1 {
-        row(x, base[x], bound[x]);
-    }
-}
-
-fn rows(served: &[u8], base: &[i64], bound: &[i64])
-    requires { ⌜ Rows (now served) (now base) (now bound) ⌝ }
-{
-    let mut x = 0;
-    while x < served.len() {
-        row_at(served, base, bound, x);
-        x += 1;
-    }
-}
-
-fn answer(outcome: Outcome, mode: u32, served: &[u8], base: &[i64], bound: &[i64])
-    requires { ⌜ Rows (now served) (now base) (now bound) ⌝ }
-{
-    match outcome {
-        Outcome::Late(x) => {
-            io::write_all(1, b"late");
-            number(x);
-            end_line();
-        }
-        Outcome::Stalled(x) => {
-            io::write_all(1, b"stalled");
-            number(x);
-            end_line();
-        }
-        Outcome::Budget { share, rounds } => {
-            head(mode, share, rounds);
-            rows(served, base, bound);
-        }
-    }
-}
-
-// ---- the budget of a netlist
-
-// The budget in a mode, worked out in lent arrays, which may hold anything before.
-fn budget_on(
-    mode: u32,
-    d: &mut [i64],
-    arr: &mut [i64],
-    req: &mut [i64],
-    seg: &mut [u16],
-    served: &mut [u8],
-    bases: &[i64],
-    kinds: &[u8],
-    times: &[i64],
-    from: &[u16],
-    to: &[u16],
-)
-    requires { ⌜ Taken (netlist (now kinds) (now times) (now from) (now to)) (now bases) × (length (now d) ≡ length (now kinds)) ⌝ }
-    requires { ⌜ Desk (length (now kinds)) (length (now served)) (length (now arr)) (length (now req)) (length (now seg)) ⌝ }
-{
-    rounds::fill_served(served, kinds);
-    let outcome = rounds::budget_in(
-        mode,
-        d,
-        arr,
-        req,
-        seg,
-        bases,
-        served,
-        kinds,
-        times,
-        from,
-        to,
-    );
-    answer(outcome, mode, served, bases, d);
-}
-
-fn budget(mode: u32, bases: &[i64], kinds: &[u8], times: &[i64], from: &[u16], to: &[u16])
-    requires { ⌜ Taken (netlist (now kinds) (now times) (now from) (now to)) (now bases) ⌝ }
-{
-    let n = kinds.len();
-    let mut d = [0i64; 1024];
-    let mut arr = [0i64; 1024];
-    let mut req = [0i64; 1024];
-    let mut seg = [0u16; 2049];
-    let mut served = [0u8; 1024];
-    budget_on(
-        mode,
-        &mut d[..n],
-        &mut arr[..n],
-        &mut req[..n],
-        &mut seg[..2 * n + 1],
-        &mut served[..n],
-        bases,
-        kinds,
-        times,
-        from,
-        to,
-    );
-}
-
-fn both(bases: &[i64], kinds: &[u8], times: &[i64], from: &[u16], to: &[u16])
-    requires { ⌜ Taken (netlist (now kinds) (now times) (now from) (now to)) (now bases) ⌝ }
-{
-    budget(0, bases, kinds, times, from, to);
-    budget(1, bases, kinds, times, from, to);
-}
-
-// The same on arrays, of which the netlist fills n and m places.
-fn both_in(n: usize, m: usize, bases: &[i64], kinds: &[u8], times: &[i64], from: &[u16], to: &[u16])
-    requires { ⌜ Filled n m (arrays (now kinds) (now bases) (now times) (now from) (now to)) ⌝ }
-{
-    both(&bases[..n], &kinds[..n], &times[..n], &from[..m], &to[..m]);
-}
-
-fn show_in(
-    s: &[u8],
-    kinds: &mut [u8],
-    bases: &mut [i64],
-    times: &mut [i64],
-    from: &mut [u16],
-    to: &mut [u16],
-)
-    requires { ⌜ LongParts (now kinds) (now bases) (now times) × LongWires (now from) (now to) ⌝ }
-{
-    let v = netlists::read_netlist(s, kinds, bases, times, from, to);
-    let Verdict::Good(n, m) = v else {
-        io::write_all(1, b"refused\n");
+fn budgeted_in(mode: u32, netlist: &[u8], result: &mut [u8]) {
+    let a = hozbantir::budget(mode, netlist, result);
+    io::write_all(1, b"mode");
+    number(mode as u64);
+    answer(a);
+    if hozbantir::number(a) != 0 {
+        end_line();
         return;
-    };
-    both_in(n, m, bases, kinds, times, from, to);
+    }
+    told(netlist, &result[..hozbantir::place(a)]);
 }
 
-// The budgets of a netlist file in both modes.
-fn show(s: &[u8]) {
-    let mut kinds = [0u8; 1024];
-    let mut bases = [0i64; 1024];
-    let mut times = [0i64; 1024];
-    let mut from = [0u16; 4096];
-    let mut to = [0u16; 4096];
-    show_in(s, &mut kinds, &mut bases, &mut times, &mut from, &mut to);
+fn budgeted(mode: u32, netlist: &[u8]) {
+    let mut result = [0u8; 49];
+    budgeted_in(mode, netlist, &mut result);
+}
+
+fn show(netlist: &[u8]) {
+    analysed(netlist);
+    budgeted(0, netlist);
+    budgeted(1, netlist);
+}
+
+// One byte less than the result of circuit A takes.
+fn show_short() {
+    let mut result = [0u8; 35];
+    budgeted_in(1, &CIRCUIT_A, &mut result);
 }
 
 // Circuit B, with its output's required time, whose low byte ends the third record.
@@ -290,12 +226,16 @@ fn walk_e(x: usize)
 
 fn main() {
     show(&CIRCUIT_A);
+    budgeted(2, &CIRCUIT_A);
+    show_short();
     show_b(9);
     show_b(10);
     show_b(11);
     show_b(12);
     show_b(13);
     show(&CIRCUIT_C);
+    show(b"");
+    show(b"\x01\x00");
     walk_d(1);
     walk_d(2);
     walk_e(1);

@@ -5,23 +5,16 @@ use mathlib.Core.Path.{refl}
 use mir.ValLaws.{toZ-ofZ}
 use Rattle.results.proofs.bound_of.Statement.{statement}
 use Rattle.results.proofs.bound_of.Tie as tie
-use Rattle.results.proofs.bound_of.Reads as reads
-use Rattle.results.proofs.bound_of.Lts as lts
-use Rattle.results.proofs.base_of.Reads as base-of-reads
 
--- src/lib.rt:309:9
 base-of-requires : tie.Need-base-of-requires
 base-of-requires c κs = simp (toZ-ofZ, c .before .fits .base) (c .before .pre .0)
 
--- src/lib.rt:309:9
 add-result : tie.Need-add-result
 add-result c = let e = simp (toZ-ofZ, c .before .before .fits .base) at (c .base-of .ensures) in search needs
 
--- src/lib.rt:304:1
 returns : tie.Need-returns
 returns c = rw (eq-eqb _ _ (c .before .if1 .taken)) (rw (c .base-of .ensures) (simp (toZ-ofZ, c .before .before .fits .base) refl))
 
--- src/lib.rt:304:1
 returns-2 : tie.Need-returns-2
 returns-2 c = rw (ne-eqb _ _ (c .if1 .left)) refl
 

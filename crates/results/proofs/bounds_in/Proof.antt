@@ -10,9 +10,6 @@ use mathlib.Core.Path.{_∙_, sym}
 use native.Mathlib.Omega.{arith}
 use Rattle.results.proofs.bounds_in.Statement.{statement}
 use Rattle.results.proofs.bounds_in.Tie as tie
-use Rattle.results.proofs.bounds_in.Reads as reads
-use Rattle.results.proofs.bounds_in.Lts as lts
-use Rattle.results.proofs.bound_of.Reads as bound-of-reads
 
 abbrev Inv-loop : tie.InvT-loop
 Inv-loop bounds₀ served bases incs x₀ bounds x = (x ≤ length served) × Filling (boundsRead served bases incs) bounds₀ bounds x
@@ -20,59 +17,45 @@ Inv-loop bounds₀ served bases incs x₀ bounds x = (x ≤ length served) × Fi
 abbrev μ-loop : tie.MeasureT-loop
 μ-loop bounds₀ served bases incs x₀ bounds x = length served - x
 
--- src/lib.rt:321:5
 loop-holds : tie.Need-loop-holds Inv-loop μ-loop
 loop-holds c = (search needs, filling-starts (length-read _ _ _ ∙ sym (c .before .before .before .pre .3)))
 
--- src/lib.rt:322:30
 shared-slice-read-bound-of : tie.Need-shared-slice-read-bound-of Inv-loop μ-loop
 shared-slice-read-bound-of c = search needs
 
--- src/lib.rt:322:41
 mul-bound-of : tie.Need-mul-bound-of Inv-loop μ-loop
 mul-bound-of c = search needs
 
--- src/lib.rt:322:41
 shared-slice-copy-out-bound-of : tie.Need-shared-slice-copy-out-bound-of Inv-loop μ-loop
 shared-slice-copy-out-bound-of c = search needs
 
--- src/lib.rt:322:51
 mul-bound-of-2 : tie.Need-mul-bound-of-2 Inv-loop μ-loop
 mul-bound-of-2 c = search needs
 
--- src/lib.rt:322:51
 shared-slice-read-bound-of-2 : tie.Need-shared-slice-read-bound-of-2 Inv-loop μ-loop
 shared-slice-read-bound-of-2 c = search needs
 
--- src/lib.rt:322:21
 bound-of-requires : tie.Need-bound-of-requires Inv-loop μ-loop
 bound-of-requires c κs = (simp (back, c .before .bound-of-arg .given) (c .before .before .before .before .before .before .before .before .pre .1 .most _), c .before .before .before .before .before .before .before .before .pre .2 .most _)
 
--- src/lib.rt:322:9
 mul-bounds : tie.Need-mul-bounds Inv-loop μ-loop
 mul-bounds c = search needs
 
--- src/lib.rt:322:9
 slice-write-bounds : tie.Need-slice-write-bounds Inv-loop μ-loop
 slice-write-bounds c = search needs
 
--- src/lib.rt:323:9
 add-x : tie.Need-add-x Inv-loop μ-loop
 add-x c = search needs
 
--- src/lib.rt:321:5
 loop-less : tie.Need-loop-less Inv-loop μ-loop
 loop-less c = search needs
 
--- src/lib.rt:321:5
 loop-again : tie.Need-loop-again Inv-loop μ-loop
 loop-again c = (search needs, filling-next 0 (c .before .before .before .before .before .loop .inv .1) (rw length-read (search needs)) (c .bound-of .ensures ∙ simp (back, c .before .before .bound-of-arg .given) (sym (read-at _ _ _ _ (search needs)))))
 
--- src/lib.rt:316:1
 same-length : tie.Need-same-length Inv-loop μ-loop
 same-length c = search needs
 
--- src/lib.rt:316:1
 returns : tie.Need-returns Inv-loop μ-loop
 returns c = filling-ends (c .before .loop .inv .1) (rw length-read (omega arith))
 

@@ -4,27 +4,19 @@ use borrow.Author.Needs.{needs}
 use mathlib.Core.Path.{_∙_, sym}
 use Rattle.rounds.proofs.budgets.share_in.Statement.{statement}
 use Rattle.rounds.proofs.budgets.share_in.Tie as tie
-use Rattle.rounds.proofs.budgets.share_in.Reads as reads
-use Rattle.rounds.proofs.budgets.share_in.Lts as lts
-use Rattle.rounds.proofs.descent.share.Reads as share-reads
 
--- src/budgets.rt:58:9
 share-requires : tie.Need-share-requires
 share-requires c κs = let p = c .before .before .before .before .before .before .before .pre in given-sharing (p .0) (p .1) (p .2)
 
--- src/budgets.rt:41:1
 returns : tie.Need-returns
 returns c = sym (plain-share _ _ (c .if1 .taken))
 
--- src/budgets.rt:41:1
 same-length : tie.Need-same-length
 same-length c = search needs
 
--- src/budgets.rt:41:1
 same-length-2 : tie.Need-same-length-2
 same-length-2 c = search needs
 
--- src/budgets.rt:41:1
 returns-2 : tie.Need-returns-2
 returns-2 c = c .before .before .share .ensures ∙ rw (c .before .before .before .before .before .before .before .before .before .before .pre .0 .marks) (sym (even-share _ _ (c .before .before .before .before .before .if1 .left)))
 

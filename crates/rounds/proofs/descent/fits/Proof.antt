@@ -3,28 +3,19 @@ use borrow.Author.Needs.{needs}
 use mathlib.Core.Path.{_∙_, refl, sym}
 use Rattle.rounds.proofs.descent.fits.Statement.{statement}
 use Rattle.rounds.proofs.descent.fits.Tie as tie
-use Rattle.rounds.proofs.descent.fits.Reads as reads
-use Rattle.rounds.proofs.descent.fits.Lts as lts
-use Rattle.rounds.proofs.marks.lift.Reads as lift-reads
-use Rattle.timing.proofs.in_time.Reads as in-time-reads
 
--- src/descent.rt:28:5
 lift-requires : tie.Need-lift-requires
 lift-requires c κs = let s = c .before .before .before .before .before .pre .0 in let q = s .ready in (s .delays-all ∙ sym (q .delays-all), s .marks-all ∙ sym (q .delays-all), q .delays-in)
 
--- src/descent.rt:29:5
 in-time-requires : tie.Need-in-time-requires
 in-time-requires c κs = let s = c .before .before .before .before .before .before .before .before .before .pre .0 in (rw (c .before .before .before .lift .ensures) (lifted-ready s _ (c .before .before .before .before .before .before .before .before .before .pre .1)), s .arrivals-all)
 
--- src/descent.rt:13:1
 same-length : tie.Need-same-length
 same-length c = search needs
 
--- src/descent.rt:13:1
 same-length-2 : tie.Need-same-length-2
 same-length-2 c = search needs
 
--- src/descent.rt:13:1
 returns : tie.Need-returns
 returns c = c .before .in-time .ensures ∙ rw (c .before .before .before .before .before .lift .ensures) refl
 

@@ -2,43 +2,31 @@ use borrow.Author.Needs.{needs}
 use mathlib.Core.Path.{refl}
 use Rattle.rounds.proofs.descent.with_bit.Statement.{statement}
 use Rattle.rounds.proofs.descent.with_bit.Tie as tie
-use Rattle.rounds.proofs.descent.with_bit.Reads as reads
-use Rattle.rounds.proofs.descent.with_bit.Lts as lts
-use Rattle.rounds.proofs.descent.fits.Reads as fits-reads
 
--- src/descent.rt:48:59
 add-fits : tie.Need-add-fits
 add-fits c = search needs
 
--- src/descent.rt:48:8
 fits-requires : tie.Need-fits-requires
 fits-requires c κs = (c .before .before .before .before .before .before .pre .0, search needs)
 
--- src/descent.rt:49:9
 add-result : tie.Need-add-result
 add-result c = search needs
 
--- src/descent.rt:32:1
 same-length : tie.Need-same-length
 same-length c = search needs
 
--- src/descent.rt:32:1
 same-length-2 : tie.Need-same-length-2
 same-length-2 c = search needs
 
--- src/descent.rt:32:1
 returns : tie.Need-returns
 returns c = rw (← c .before .before .before .fits2 .ensures, c .if1 .taken) refl
 
--- src/descent.rt:32:1
 same-length-3 : tie.Need-same-length-3
 same-length-3 c = search needs
 
--- src/descent.rt:32:1
 same-length-4 : tie.Need-same-length-4
 same-length-4 c = search needs
 
--- src/descent.rt:32:1
 returns-2 : tie.Need-returns-2
 returns-2 c = rw (← c .before .before .before .fits2 .ensures, c .if1 .left) refl
 

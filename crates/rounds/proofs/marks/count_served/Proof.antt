@@ -9,9 +9,6 @@ use mathlib.Core.Path.{_≡_}
 use native.Mathlib.Omega.{arith}
 use Rattle.rounds.proofs.marks.count_served.Statement.{statement}
 use Rattle.rounds.proofs.marks.count_served.Tie as tie
-use Rattle.rounds.proofs.marks.count_served.Reads as reads
-use Rattle.rounds.proofs.marks.count_served.Lts as lts
-use Rattle.rounds.proofs.marks.due.Reads as due-reads
 
 abbrev Inv-loop : tie.InvT-loop
 Inv-loop served n₀ i₀ n i = (i ≤ length served) × (n ≡ count (marked served) i)
@@ -19,39 +16,30 @@ Inv-loop served n₀ i₀ n i = (i ≤ length served) × (n ≡ count (marked se
 abbrev μ-loop : tie.MeasureT-loop
 μ-loop served n₀ i₀ n i = length served - i
 
--- src/marks.rt:42:5
 loop-holds : tie.Need-loop-holds Inv-loop μ-loop
 loop-holds c = (search needs, count-starts _)
 
--- src/marks.rt:43:18
 shared-slice-read-due : tie.Need-shared-slice-read-due Inv-loop μ-loop
 shared-slice-read-due c = search needs
 
--- src/marks.rt:43:14
 due-requires : tie.Need-due-requires Inv-loop μ-loop
 due-requires c κs = search needs
 
--- src/marks.rt:43:14
 cast-n : tie.Need-cast-n Inv-loop μ-loop
 cast-n c = search needs
 
--- src/marks.rt:43:9
 add-n : tie.Need-add-n Inv-loop μ-loop
 add-n c = omega (arith, count-fits _ (c .before .before .before .loop .i) (c .before .before .before .loop .inv .1) (c .due .ensures))
 
--- src/marks.rt:44:9
 add-i : tie.Need-add-i Inv-loop μ-loop
 add-i c = search needs
 
--- src/marks.rt:42:5
 loop-less : tie.Need-loop-less Inv-loop μ-loop
 loop-less c = search needs
 
--- src/marks.rt:42:5
 loop-again : tie.Need-loop-again Inv-loop μ-loop
 loop-again c = (search needs, count-next _ (c .before .before .before .loop .i) (c .before .before .before .loop .inv .1) (c .due .ensures))
 
--- src/marks.rt:37:1
 returns : tie.Need-returns Inv-loop μ-loop
 returns c =
     let q : c .before .loop .i ≡ length (now (c .before .before .before .args .served)) = omega arith in

@@ -1,14 +1,10 @@
 use borrow.Author.Tests.{eq-eqb, ne-eqb}
 use Rattle.rounds.proofs.marks.due.Statement.{statement}
 use Rattle.rounds.proofs.marks.due.Tie as tie
-use Rattle.rounds.proofs.marks.due.Reads as reads
-use Rattle.rounds.proofs.marks.due.Lts as lts
 
--- src/marks.rt:31:1
 returns : tie.Need-returns
 returns c = simp (eq-eqb _ _ (c .if1 .taken))
 
--- src/marks.rt:31:1
 returns-2 : tie.Need-returns-2
 returns-2 c = simp (ne-eqb _ _ (c .if1 .left))
 

@@ -9,9 +9,6 @@ use mathlib.Core.Path.{_∙_, sym}
 use native.Mathlib.Omega.{arith}
 use Rattle.rounds.proofs.marks.fill_served.Statement.{statement}
 use Rattle.rounds.proofs.marks.fill_served.Tie as tie
-use Rattle.rounds.proofs.marks.fill_served.Reads as reads
-use Rattle.rounds.proofs.marks.fill_served.Lts as lts
-use Rattle.rounds.proofs.marks.mark_of.Reads as mark-of-reads
 
 abbrev Inv-loop : tie.InvT-loop
 Inv-loop served₀ kinds i₀ served i = (i ≤ length kinds) × Filling (servedOf kinds) served₀ served i
@@ -19,39 +16,30 @@ Inv-loop served₀ kinds i₀ served i = (i ≤ length kinds) × Filling (served
 abbrev μ-loop : tie.MeasureT-loop
 μ-loop served₀ kinds i₀ served i = length kinds - i
 
--- src/marks.rt:24:5
 loop-holds : tie.Need-loop-holds Inv-loop μ-loop
 loop-holds c = (search needs, filling-starts (rw length-served (sym (c .before .before .pre))))
 
--- src/marks.rt:25:29
 shared-slice-read-mark-of : tie.Need-shared-slice-read-mark-of Inv-loop μ-loop
 shared-slice-read-mark-of c = search needs
 
--- src/marks.rt:25:21
 mark-of-requires : tie.Need-mark-of-requires Inv-loop μ-loop
 mark-of-requires c κs = search needs
 
--- src/marks.rt:25:9
 slice-write-served : tie.Need-slice-write-served Inv-loop μ-loop
 slice-write-served c = search needs
 
--- src/marks.rt:26:9
 add-i : tie.Need-add-i Inv-loop μ-loop
 add-i c = search needs
 
--- src/marks.rt:24:5
 loop-less : tie.Need-loop-less Inv-loop μ-loop
 loop-less c = search needs
 
--- src/marks.rt:24:5
 loop-again : tie.Need-loop-again Inv-loop μ-loop
 loop-again c = (search needs, filling-next 0 (c .before .before .before .loop .inv .1) (rw length-served (search needs)) (c .mark-of .ensures ∙ sym (List·getD-map mark (now (c .before .before .before .before .before .before .args .kinds)) (c .before .before .before .loop .i) 0)))
 
--- src/marks.rt:19:1
 same-length : tie.Need-same-length Inv-loop μ-loop
 same-length c = search needs
 
--- src/marks.rt:19:1
 returns : tie.Need-returns Inv-loop μ-loop
 returns c = filling-ends (c .before .loop .inv .1) (rw length-served (omega arith))
 

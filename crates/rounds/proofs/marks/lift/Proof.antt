@@ -10,9 +10,6 @@ use mathlib.Core.Path.{_∙_, sym}
 use native.Mathlib.Omega.{arith}
 use Rattle.rounds.proofs.marks.lift.Statement.{statement}
 use Rattle.rounds.proofs.marks.lift.Tie as tie
-use Rattle.rounds.proofs.marks.lift.Reads as reads
-use Rattle.rounds.proofs.marks.lift.Lts as lts
-use Rattle.rounds.proofs.marks.lifted_at.Reads as lifted-at-reads
 
 abbrev Inv-loop : tie.InvT-loop
 Inv-loop d₀ base served t i₀ d i = (i ≤ length base) × Filling (lifted served t base) d₀ d i
@@ -20,41 +17,32 @@ Inv-loop d₀ base served t i₀ d i = (i ≤ length base) × Filling (lifted se
 abbrev μ-loop : tie.MeasureT-loop
 μ-loop d₀ base served t i₀ d i = length base - i
 
--- src/marks.rt:61:5
 loop-holds : tie.Need-loop-holds Inv-loop μ-loop
 loop-holds c = (search needs, filling-starts (length-lifted _ _ _ ∙ sym (c .before .pre .0)))
 
--- src/marks.rt:62:16
 lifted-at-requires : tie.Need-lifted-at-requires Inv-loop μ-loop
 lifted-at-requires c κs = search needs
 
--- src/marks.rt:62:9
 mul-t6 : tie.Need-mul-t6 Inv-loop μ-loop
 mul-t6 c = search needs
 
--- src/marks.rt:62:9
 slice-set-from-d : tie.Need-slice-set-from-d Inv-loop μ-loop
 slice-set-from-d c = search needs
 
--- src/marks.rt:63:9
 add-i : tie.Need-add-i Inv-loop μ-loop
 add-i c = search needs
 
--- src/marks.rt:61:5
 loop-less : tie.Need-loop-less Inv-loop μ-loop
 loop-less c = search needs
 
--- src/marks.rt:61:5
 loop-again : tie.Need-loop-again Inv-loop μ-loop
 loop-again c =
     let a = c .before .before .before .before in
     (search needs, filling-next (pos 0) (c .before .before .loop .inv .1) (rw length-lifted (search needs)) (via (c .lifted-at .ok) (c .lifted-at .ensures ∙ sym (lifted-at _ _ _ (a .pre .1) (c .before .before .loop .i)))))
 
--- src/marks.rt:56:1
 same-length : tie.Need-same-length Inv-loop μ-loop
 same-length c = search needs
 
--- src/marks.rt:56:1
 returns : tie.Need-returns Inv-loop μ-loop
 returns c = filling-ends (c .before .loop .inv .1) (rw length-lifted (omega arith))
 

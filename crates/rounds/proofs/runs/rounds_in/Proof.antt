@@ -9,9 +9,6 @@ use mathlib.Core.Path.{_∙_, _≡_, refl}
 use native.Mathlib.Omega.{arith}
 use Rattle.rounds.proofs.runs.rounds_in.Statement.{statement}
 use Rattle.rounds.proofs.runs.rounds_in.Tie as tie
-use Rattle.rounds.proofs.runs.rounds_in.Reads as reads
-use Rattle.rounds.proofs.runs.rounds_in.Lts as lts
-use Rattle.rounds.proofs.turns.round.Reads as round-reads
 
 abbrev Inv-loop : tie.InvT-loop
 Inv-loop d₀ arr₀ req₀ seg₀ served kinds times from to limit count₀ fuel₀ d arr req seg count fuel = Running (netlist kinds times from to) limit d₀ d count fuel × (length arr ≡ length arr₀) × (length req ≡ length req₀) × (length seg ≡ length seg₀)
@@ -19,27 +16,21 @@ Inv-loop d₀ arr₀ req₀ seg₀ served kinds times from to limit count₀ fue
 abbrev μ-loop : tie.MeasureT-loop
 μ-loop d₀ arr₀ req₀ seg₀ served kinds times from to limit count₀ fuel₀ d arr req seg count fuel = fuel
 
--- src/runs.rt:41:5
 loop-holds : tie.Need-loop-holds Inv-loop μ-loop
 loop-holds c = (running-starts (c .before .before .before .before .before .pre .0 .1), refl, refl, refl)
 
--- src/runs.rt:42:12
 round-requires : tie.Need-round-requires Inv-loop μ-loop
 round-requires c κs = let p = c .before .before .before .before .before .before .before .before .before .before .before .pre in let i = c .before .before .before .before .before .loop .inv in (steady (p .0 .0) (i .0 .safe), rw (i .1, i .2, i .3) (p .1))
 
--- src/runs.rt:43:13
 add-count : tie.Need-add-count Inv-loop μ-loop
 add-count c = search needs
 
--- src/runs.rt:44:13
 sub-fuel : tie.Need-sub-fuel Inv-loop μ-loop
 sub-fuel c = search needs
 
--- src/runs.rt:41:5
 loop-less : tie.Need-loop-less Inv-loop μ-loop
 loop-less c = search needs
 
--- src/runs.rt:41:5
 loop-again : tie.Need-loop-again Inv-loop μ-loop
 loop-again c =
     let p = c .before .before .before .before .before .before .before .before .before .before .before .before .before .before .before .before .before .before .pre in
@@ -47,43 +38,33 @@ loop-again c =
     let r = c .before .before .before .before .before .before .round in
     (running-next (p .0 .0) (i .0) (search needs) (rw (p .0 .2) at (r .ensures)) (c .if1 .taken), r .kept .1 .0 ∙ i .1, r .kept .1 .1 .0 ∙ i .2, r .kept .1 .1 .1 .0 ∙ i .3)
 
--- src/runs.rt:46:13
 same-length : tie.Need-same-length Inv-loop μ-loop
 same-length c = c .before .before .before .before .before .before .round .kept .0 ∙ c .before .before .before .before .before .before .before .before .before .before .before .before .loop .inv .0 .same
 
--- src/runs.rt:46:13
 same-length-2 : tie.Need-same-length-2 Inv-loop μ-loop
 same-length-2 c = c .before .before .before .before .before .before .round .kept .1 .0 ∙ c .before .before .before .before .before .before .before .before .before .before .before .before .loop .inv .1
 
--- src/runs.rt:46:13
 same-length-3 : tie.Need-same-length-3 Inv-loop μ-loop
 same-length-3 c = c .before .before .before .before .before .before .round .kept .1 .1 .0 ∙ c .before .before .before .before .before .before .before .before .before .before .before .before .loop .inv .2
 
--- src/runs.rt:46:13
 same-length-4 : tie.Need-same-length-4 Inv-loop μ-loop
 same-length-4 c = c .before .before .before .before .before .before .round .kept .1 .1 .1 .0 ∙ c .before .before .before .before .before .before .before .before .before .before .before .before .loop .inv .3
 
--- src/runs.rt:46:13
 returns : tie.Need-returns Inv-loop μ-loop
 returns c = running-stops (c .before .before .before .before .before .before .before .before .before .before .before .before .loop .inv .0) (rw (c .before .before .before .before .before .before .before .before .before .before .before .before .before .before .before .before .before .before .pre .0 .2) at (c .before .before .before .before .before .before .round .ensures)) (c .if1 .left)
 
--- src/runs.rt:23:1
 same-length-5 : tie.Need-same-length-5 Inv-loop μ-loop
 same-length-5 c = c .before .loop .inv .0 .same
 
--- src/runs.rt:23:1
 same-length-6 : tie.Need-same-length-6 Inv-loop μ-loop
 same-length-6 c = c .before .loop .inv .1
 
--- src/runs.rt:23:1
 same-length-7 : tie.Need-same-length-7 Inv-loop μ-loop
 same-length-7 c = c .before .loop .inv .2
 
--- src/runs.rt:23:1
 same-length-8 : tie.Need-same-length-8 Inv-loop μ-loop
 same-length-8 c = c .before .loop .inv .3
 
--- src/runs.rt:23:1
 returns-2 : tie.Need-returns-2 Inv-loop μ-loop
 returns-2 c = running-ends (c .before .loop .inv .0) (omega arith)
 

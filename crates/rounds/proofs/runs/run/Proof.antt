@@ -5,17 +5,10 @@ use borrow.Author.Needs.{needs}
 use mathlib.Core.Path.{_∙_, sym}
 use Rattle.rounds.proofs.runs.run.Statement.{statement}
 use Rattle.rounds.proofs.runs.run.Tie as tie
-use Rattle.rounds.proofs.runs.run.Reads as reads
-use Rattle.rounds.proofs.runs.run.Lts as lts
-use Rattle.rounds.proofs.runs.rounds_in.Reads as rounds-in-reads
-use Rattle.rounds.proofs.turns.choose_in.Reads as choose-in-reads
-use Rattle.segments.proofs.lowest_positive.Reads as lowest-positive-reads
 
--- src/runs.rt:68:9
 rounds-in-requires : tie.Need-rounds-in-requires
 rounds-in-requires c κs = let p = c .before .before .before .before .before .before .before .before .before .pre in (p .0, p .1 .0)
 
--- src/runs.rt:69:5
 choose-in-requires : tie.Need-choose-in-requires
 choose-in-requires c κs =
     let p = c .before .before .before .before .before .before .before .before .before .before .before .before .before .before .before .before .before .before .pre in
@@ -23,7 +16,6 @@ choose-in-requires c κs =
     let q = p .1 .0 in
     (steady (p .0 .0) (ran-safe (p .0 .0) (p .0 .1) (p .1 .1) (r .ensures)), q .marks-all, r .kept .1 .0 ∙ q .arrivals-all, r .kept .1 .1 .0 ∙ q .requireds-all)
 
--- src/runs.rt:70:9
 lowest-positive-requires : tie.Need-lowest-positive-requires
 lowest-positive-requires c κs =
     let p = c .before .before .before .before .before .before .before .before .before .before .before .before .before .before .before .before .before .before .before .before .before .before .before .pre in
@@ -32,46 +24,36 @@ lowest-positive-requires c κs =
     let q = p .1 .0 in
     (chose-gauged (steady (p .0 .0) (ran-safe (p .0 .0) (p .0 .1) (p .1 .1) (r .ensures))) (t .ensures), t .kept .0 ∙ r .kept .1 .0 ∙ q .arrivals-all ∙ sym (q .marks-all))
 
--- src/runs.rt:52:1
 same-length : tie.Need-same-length
 same-length c = search needs
 
--- src/runs.rt:52:1
 same-length-2 : tie.Need-same-length-2
 same-length-2 c = search needs
 
--- src/runs.rt:52:1
 same-length-3 : tie.Need-same-length-3
 same-length-3 c = search needs
 
--- src/runs.rt:52:1
 same-length-4 : tie.Need-same-length-4
 same-length-4 c = search needs
 
--- src/runs.rt:52:1
 returns : tie.Need-returns
 returns c =
     let e = c .before .before .before .before .before .before .before .before .before .before .before .before .before .before .before .before .before .before .before .before .before .before .before .before .before .pre .0 .2 in
     let r = c .before .before .before .before .before .before .before .before .before .before .before .before .before .before .before .rounds-in .ensures in
     (end-stalled r (rw e at (c .before .before .before .before .before .before .choose-in .ensures)) (rw e at (c .before .lowest-positive .ensures)) (search needs), r .left)
 
--- src/runs.rt:52:1
 same-length-5 : tie.Need-same-length-5
 same-length-5 c = search needs
 
--- src/runs.rt:52:1
 same-length-6 : tie.Need-same-length-6
 same-length-6 c = search needs
 
--- src/runs.rt:52:1
 same-length-7 : tie.Need-same-length-7
 same-length-7 c = search needs
 
--- src/runs.rt:52:1
 same-length-8 : tie.Need-same-length-8
 same-length-8 c = search needs
 
--- src/runs.rt:52:1
 returns-2 : tie.Need-returns-2
 returns-2 c =
     let e = c .before .before .before .before .before .before .before .before .before .before .before .before .before .before .before .before .before .before .before .before .before .before .before .before .before .pre .0 .2 in

@@ -1,0 +1,34 @@
+-- "For each input, refusals included, that statement determines the outcome and the later contents of the lent buffers. Prove that outcomes satisfying
+-- it coincide" (01, "What the contracts settle"): for each call and each export, over the predicate that it ensures. There is no exception.
+use mathlib.Core.Path.{_≡_}
+use mathlib.Core.List.{List}
+use Prim.Native.Nat.{ℕ}
+use lib.IntN.{ℤ}
+use Rattle.hozbantir.specs.declared.answers.Answer.{Answer}
+use Rattle.hozbantir.specs.Answers.{leaves-one}
+use Rattle.hozbantir.specs.Calls.{Analyses, Budgets, ReadsBack}
+use Rattle.hozbantir.specs.Exports.{SendsAnalysis, SendsBudget, SendsBounds, sends-one}
+
+-- the netlist s
+module _ (s : List ℕ) where
+  pub analyses-one : {before after after′ : List ℤ} {r r′ : Answer} → Analyses s before r after → Analyses s before r′ after′ → (r ≡ r′) × (after ≡ after′)
+  analyses-one = leaves-one
+
+  pub sends-analysis-one : {before after after′ : List ℕ} {v v′ : ℕ} → SendsAnalysis s before v after → SendsAnalysis s before v′ after′ → (v ≡ v′) × (after ≡ after′)
+  sends-analysis-one = sends-one
+
+-- the mode m and the netlist s
+module _ (m : ℕ) (s : List ℕ) where
+  pub budgets-one : {before after after′ : List ℕ} {r r′ : Answer} → Budgets m s before r after → Budgets m s before r′ after′ → (r ≡ r′) × (after ≡ after′)
+  budgets-one = leaves-one
+
+  pub sends-budget-one : {before after after′ : List ℕ} {v v′ : ℕ} → SendsBudget m s before v after → SendsBudget m s before v′ after′ → (v ≡ v′) × (after ≡ after′)
+  sends-budget-one = sends-one
+
+-- the netlist s and the result q
+module _ (s q : List ℕ) where
+  pub reads-one : {before after after′ : List ℕ} {r r′ : Answer} → ReadsBack s q before r after → ReadsBack s q before r′ after′ → (r ≡ r′) × (after ≡ after′)
+  reads-one = leaves-one
+
+  pub sends-bounds-one : {before after after′ : List ℕ} {v v′ : ℕ} → SendsBounds s q before v after → SendsBounds s q before v′ after′ → (v ≡ v′) × (after ≡ after′)
+  sends-bounds-one = sends-one
