@@ -23,7 +23,7 @@ pub analysed-least : (s : List ℕ) {before after : List ℤ} {k : ℕ} → Anal
 unfolding analysisOf analysisOn
 analysed-least s {before} {after} p x h =
     let b = boardOf s in
-    let (done, q) = done-taken (takenOf s) p in
+    let (done, q) = done-taken (takenOf s) _ p in
     let w = slacks (netOn b) (b .bases) in
     let (few, room, wrote) = done-written (length before) (length (b .kinds)) w q in
     let t = said-taken s (done .1) in

@@ -4,12 +4,12 @@ use mathlib.Core.List.{List, _++_}
 use Prim.Native.Nat.{ℕ, _<_, _≤_}
 use native.Mathlib.Omega.{arith}
 use lib.ListN.{length, drop}
-use Rattle.whole.specs.Pick.{Test, Yes, No, lt, if?, if-yes, if-no, if-cases}
+use Rattle.whole.specs.Pick.{Test, Yes, No, lt, eq, if?, if-yes, if-no, if-cases}
 use Rattle.netlists.specs.declared.Verdict.{Verdict}
 use Rattle.netlists.specs.declared.Verdict.the-variants as J
 use Rattle.hozbantir.specs.declared.answers.Answer.{Answer}
-use Rattle.hozbantir.specs.declared.answers.Answer.the-variants.{Done, Mode, Broken, Tag, Size, Field, Wiring, Ends, Late, Stalled, Room, Result}
-use Rattle.hozbantir.specs.Answers.{numberOf, Left, left, refusal, inRoom, Leaves, unless, onVerdict}
+use Rattle.hozbantir.specs.declared.answers.Answer.the-variants.{Done, Broken, Tag, Size, Field, Wiring, Ends, Room}
+use Rattle.hozbantir.specs.Answers.{numberOf, placeOf, Left, left, refusal, inRoom, Leaves, unless, onVerdict, answer-one}
 
 -- it does not say that all went well
 abbrev pub Refused : Answer → Type 0
@@ -19,20 +19,6 @@ module _ {A : Type 0} where
   -- an answer that refuses leaves the buffer
   pub refusal-leaves : (a : Answer) (before : List A) → Leaves (refusal a) before a before
   refusal-leaves a before = record { number = refl; place = refl; writes = refl }
-
-  pub unless-refused : (a : Answer) (l : Left A) (before : List A) → Refused a → Leaves (unless a l) before a before
-  unless-refused (Done n) l before h = absurd (h n refl)
-  unless-refused Mode l before h = refusal-leaves Mode before
-  unless-refused (Broken a) l before h = refusal-leaves (Broken a) before
-  unless-refused (Tag a) l before h = refusal-leaves (Tag a) before
-  unless-refused (Size a) l before h = refusal-leaves (Size a) before
-  unless-refused (Field a) l before h = refusal-leaves (Field a) before
-  unless-refused (Wiring a) l before h = refusal-leaves (Wiring a) before
-  unless-refused (Ends x) l before h = refusal-leaves (Ends x) before
-  unless-refused (Late x) l before h = refusal-leaves (Late x) before
-  unless-refused (Stalled x) l before h = refusal-leaves (Stalled x) before
-  unless-refused (Room n) l before h = refusal-leaves (Room n) before
-  unless-refused (Result a) l before h = refusal-leaves (Result a) before
 
 -- a netlist that is not taken is refused
 pub verdict-refused : (v : Verdict) (a : Answer) → ((n m : ℕ) → v ≡ J.Good n m → ⊥) → Refused (onVerdict v a)
@@ -65,6 +51,17 @@ module _ {A : Type 0} {before after : List A} {r : Answer} where
   pub leaves-no : (t : Test) (u w : Left A) → No t → Leaves w before r after → Leaves (if? t u w) before r after
   leaves-no t u w h = carry (if-no t u h refl)
 
+module _ {A : Type 0} where
+  -- after a refusal nothing else is looked at, and where there is none, all is
+  pub unless-refused : (a : Answer) (l : Left A) (before : List A) → Refused a → Leaves (unless a l) before a before
+  unless-refused a l before h = leaves-no (eq (numberOf a) 0) l (refusal a) (λ e. h (placeOf a) (answer-one e refl)) (refusal-leaves a before)
+
+  pub unless-done : {before after : List A} {r : Answer} (a : Answer) (l : Left A) → numberOf a ≡ 0 → Leaves l before r after → Leaves (unless a l) before r after
+  unless-done a l e = leaves-yes (eq (numberOf a) 0) l (refusal a) e
+
+  pub done-unless : {before after : List A} {r : Answer} (a : Answer) (l : Left A) → numberOf a ≡ 0 → Leaves (unless a l) before r after → Leaves l before r after
+  done-unless a l e = carry (sym (if-yes (eq (numberOf a) 0) (refusal a) e refl))
+
 module _ {A : Type 0} (room needed : ℕ) (w before : List A) where
   pub room-short : room < needed → Leaves (inRoom room needed w) before (Room needed) before
   room-short h = leaves-yes (lt room needed) (refusal (Room needed)) (left (Done needed) w) h (refusal-leaves (Room needed) before)
@@ -75,19 +72,11 @@ module _ {A : Type 0} (room needed : ℕ) (w before : List A) where
 -- ---- success says that nothing was refused, and that the buffer has what was to be written
 
 module _ {A : Type 0} {before after : List A} {k : ℕ} where
-  pub done-taken : (a : Answer) {l : Left A} → Leaves (unless a l) before (Done k) after → ((n : ℕ) × (a ≡ Done n)) × Leaves l before (Done k) after
-  done-taken (Done n) p = ((n, refl), p)
-  done-taken Mode p = absurd (let e = p .number in omega arith)
-  done-taken (Broken a) p = absurd (let e = p .number in omega arith)
-  done-taken (Tag a) p = absurd (let e = p .number in omega arith)
-  done-taken (Size a) p = absurd (let e = p .number in omega arith)
-  done-taken (Field a) p = absurd (let e = p .number in omega arith)
-  done-taken (Wiring a) p = absurd (let e = p .number in omega arith)
-  done-taken (Ends x) p = absurd (let e = p .number in omega arith)
-  done-taken (Late x) p = absurd (let e = p .number in omega arith)
-  done-taken (Stalled x) p = absurd (let e = p .number in omega arith)
-  done-taken (Room n) p = absurd (let e = p .number in omega arith)
-  done-taken (Result a) p = absurd (let e = p .number in omega arith)
+  pub done-taken : (a : Answer) (l : Left A) → Leaves (unless a l) before (Done k) after → ((n : ℕ) × (a ≡ Done n)) × Leaves l before (Done k) after
+  done-taken a l =
+      if-cases (λ u. Leaves u before (Done k) after → ((n : ℕ) × (a ≡ Done n)) × Leaves l before (Done k) after) (eq (numberOf a) 0) l (refusal a)
+      (λ e p. ((placeOf a, answer-one e refl), p))
+      (λ h p. absurd (h (sym (p .number))))
 
   pub done-written : (room needed : ℕ) (w : List A) → Leaves (inRoom room needed w) before (Done k) after → (k ≡ needed) × (needed ≤ room) × (after ≡ w ++ drop (length w) before)
   done-written room needed w =

@@ -3,7 +3,7 @@ use mathlib.Core.Path.{_≡_, refl, sym, _∙_}
 use mathlib.Core.List.{List, [], _∷_, _++_}
 use Prim.Native.Nat.{ℕ}
 use lib.ListN.{length, drop, getD}
-use Rattle.whole.specs.Pick.{lt, if?}
+use Rattle.whole.specs.Pick.{lt, eq, if?}
 use Rattle.netlists.specs.declared.Verdict.{Verdict}
 use Rattle.netlists.specs.declared.Verdict.the-variants as J
 use Rattle.results.specs.declared.Told.{Told}
@@ -72,18 +72,7 @@ pub record Leaves {A : Type 0} (l : Left A) (before : List A) (r : Answer) (afte
 
 -- a refusal stands, and where there is none, l is left
 abbrev pub unless : {A : Type 0} → Answer → Left A → Left A
-unless (Done n) l = l
-unless Mode l = refusal Mode
-unless (Broken a) l = refusal (Broken a)
-unless (Tag a) l = refusal (Tag a)
-unless (Size a) l = refusal (Size a)
-unless (Field a) l = refusal (Field a)
-unless (Wiring a) l = refusal (Wiring a)
-unless (Ends x) l = refusal (Ends x)
-unless (Late x) l = refusal (Late x)
-unless (Stalled x) l = refusal (Stalled x)
-unless (Room n) l = refusal (Room n)
-unless (Result a) l = refusal (Result a)
+unless a l = if? (eq (numberOf a) 0) l (refusal a)
 
 -- the netlist's refusals, 2 to 7, which every call gives; where it is taken, what comes next
 abbrev pub onVerdict : Verdict → Answer → Answer

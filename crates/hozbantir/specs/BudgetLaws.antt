@@ -24,7 +24,7 @@ use Rattle.results.specs.declared.Told.the-variants as T
 use Rattle.hozbantir.specs.declared.answers.Answer.{Answer}
 use Rattle.hozbantir.specs.declared.answers.Answer.the-variants.{Done, Mode, Late}
 use Rattle.hozbantir.specs.Answers.{numberOf, placeOf, Left, refusal, unless, Leaves, answer-one}
-use Rattle.hozbantir.specs.AnswerLaws.{done-taken, done-written}
+use Rattle.hozbantir.specs.AnswerLaws.{done-taken, done-unless, done-written}
 use Rattle.hozbantir.specs.Calls.{takenOf, onOutcome, budgetOn, budgetFor, Budgets}
 use Rattle.hozbantir.specs.Taken.{Taken, said-taken, taken-count}
 use Rattle.hozbantir.specs.Budgeting.{taken-bases}
@@ -100,7 +100,7 @@ module _ {before after : List ℕ} {k : ℕ} where
       let n = netOn (boardOf s) in
       let b = boardOf s .bases in
       let (h, q) = known-mode m _ p in
-      let (done, o) = done-taken (takenOf s) q in
+      let (done, o) = done-taken (takenOf s) _ q in
       let (t, r, l, e, w) = outcome-wrote m n b (budgetOf m n b) o in
       record { share = t; rounds = r; increments = l; mode = h; judged = taken-count s (done .1); taken = said-taken s (done .1); budget = e; bytes = w }
 
@@ -110,7 +110,7 @@ module _ {before after : List ℕ} {k : ℕ} where
   budget-counts m s p =
       let n = netOn (boardOf s) in
       let b = boardOf s .bases in
-      let o = done-taken (takenOf s) (known-mode m _ p .1) .1 in
+      let o = done-taken (takenOf s) _ (known-mode m _ p .1) .1 in
       outcome-counts m n b (budgetOf m n b) o
 
 module _ {m : ℕ} {s q : List ℕ} (w : Wrote m s q) where
@@ -133,9 +133,10 @@ module _ {m : ℕ} {s q : List ℕ} (w : Wrote m s q) where
 pub budget-decides : {m n : ℕ} (s : List ℕ) {before after : List ℕ} {r : Answer} → m ≤ 1 → takenOf s ≡ Done n → Budgets m s before r after → Leaves (onOutcome m (netOn (boardOf s)) (boardOf s .bases) (length before) (budgetOf m (netOn (boardOf s)) (boardOf s .bases))) before r after
 unfolding budgetFor budgetOn
 budget-decides {m} s {before} {after} {r} h e p =
-    let l = unless (takenOf s) (onOutcome m (netOn (boardOf s)) (boardOf s .bases) (length before) (budgetOf m (netOn (boardOf s)) (boardOf s .bases))) in
-    rw e at
-    (if-cases (λ u. Leaves u before r after → Leaves l before r after) (is (known m)) l (refusal Mode) (λ _ q. q) (λ f. absurd (clash (sym (le-leb m 1 h) ∙ f))) p)
+    let l = onOutcome m (netOn (boardOf s)) (boardOf s .bases) (length before) (budgetOf m (netOn (boardOf s)) (boardOf s .bases)) in
+    let u = unless (takenOf s) l in
+    done-unless (takenOf s) l (ap numberOf e)
+    (if-cases (λ v. Leaves v before r after → Leaves u before r after) (is (known m)) u (refusal Mode) (λ _ q. q) (λ f. absurd (clash (sym (le-leb m 1 h) ∙ f))) p)
 
 -- LATE is the outcome's
 pub outcome-late : (m : ℕ) (n : Netlist) (b : List ℤ) (room : ℕ) {x : ℕ} {before after : List ℕ} (o : Outcome) → Leaves (onOutcome m n b room o) before (Late x) after → o ≡ LateAt x

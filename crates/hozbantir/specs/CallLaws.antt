@@ -13,7 +13,7 @@ use Rattle.netlists.specs.Held.{Arrays, Board-in, Judges}
 use Rattle.hozbantir.specs.declared.answers.Answer.{Answer}
 use Rattle.hozbantir.specs.declared.answers.Answer.the-variants.{Done, Mode}
 use Rattle.hozbantir.specs.Answers.{Left, onVerdict, unless, Leaves}
-use Rattle.hozbantir.specs.AnswerLaws.{Refused, refusal-leaves, unless-refused, verdict-refused, verdict-same, leaves-yes, leaves-no}
+use Rattle.hozbantir.specs.AnswerLaws.{Refused, refusal-leaves, unless-refused, unless-done, verdict-refused, verdict-same, leaves-yes, leaves-no}
 use Rattle.hozbantir.specs.Calls.{takenOf, analysisOn, analysisOf, Analyses, budgetOn, budgetFor, Budgets, resultOn, bothOf}
 use Rattle.hozbantir.specs.Taken.{netIn}
 
@@ -49,7 +49,7 @@ module _ {s : List ℕ} {v : Verdict} {a : Arrays} (j : Judges s v a) where
 
     taken-leaves : {A : Type 0} {l : Left A} {before after : List A} {r : Answer} → Leaves l before r after → Leaves (unless (takenOf s) l) before r after
     unfolding takenOf
-    taken-leaves p = rw good p
+    taken-leaves {l = l} = unless-done (takenOf s) l (rw good refl)
 
     pub analyses-taken : {before after : List ℤ} {r : Answer} → Leaves (analysisOn (netIn n m a) (take n (a .bs)) (length before)) before r after → Analyses s before r after
     unfolding analysisOf

@@ -22,8 +22,8 @@ use Rattle.results.specs.Bounds.{length-read, read-at}
 use Rattle.results.specs.Accepted.{OfBytes, same-bytes}
 use Rattle.hozbantir.specs.declared.answers.Answer.{Answer}
 use Rattle.hozbantir.specs.declared.answers.Answer.the-variants.{Done, Room, Late}
-use Rattle.hozbantir.specs.Answers.{left, refusal, Leaves, answer-one}
-use Rattle.hozbantir.specs.AnswerLaws.{done-taken, done-written}
+use Rattle.hozbantir.specs.Answers.{numberOf, left, refusal, Leaves, answer-one}
+use Rattle.hozbantir.specs.AnswerLaws.{done-taken, done-unless, done-written}
 use Rattle.hozbantir.specs.Calls.{takenOf, Budgets, bothOf, saidOf, boundsOn, readBackOf, ReadsBack}
 use Rattle.hozbantir.specs.Taken.{Taken, said-taken}
 use Rattle.hozbantir.specs.Reading.{both-agree, agree-both}
@@ -95,13 +95,13 @@ module _ (s q : List ℕ) where
           if-cases (λ l. Leaves l before r after → Reads s q r after) (lt (length before) (parts (netIn s))) (refusal (Room (parts (netIn s)))) (left (Done (parts (netIn s))) bounds)
           (λ h. absurd (omega arith))
           (λ h f. record { accepted = answer-one (f .number) (f .place); bounds = rw (f .writes) (bounds-in before) })
-          (rw e at p)
+          (done-unless (bothOf s q) _ (ap numberOf e) p)
 
   module _ {before after : List ℕ} {k : ℕ} (p : ReadsBack s q before (Done k) after) where
     pub reads-agree : (bothOf s q ≡ Done (parts (netIn s))) × (k ≡ parts (netIn s)) × (parts (netIn s) ≤ length before) × (after ≡ bounds ++ drop (length bounds) before)
     unfolding readBackOf boundsOn
     reads-agree =
-        let (done, f) = done-taken (bothOf s q) p in
+        let (done, f) = done-taken (bothOf s q) _ p in
         let agree = both-agree s q (done .1) .3 in
         let (n, h, w) = done-written (length before) (parts (netIn s)) bounds f in
         (done .1 ∙ ap Done (agree .count), n, h, w)

@@ -6,7 +6,7 @@ use Prim.Native.Nat.{ℕ, _≤_, _<_}
 use native.Mathlib.Omega.{arith}
 use lib.IntN.{ℤ}
 use lib.ListN.{length}
-use Rattle.whole.specs.Pick.{lt, is, if-cases, if-yes, if-no, decide}
+use Rattle.whole.specs.Pick.{lt, eq, is, if-cases, if-yes, if-no, decide}
 use Rattle.circuit.specs.ListLaws.{count-le}
 use Rattle.circuit.specs.Netlist.{Netlist, parts, servedOf, marked}
 use Rattle.circuit.specs.ServedLaws.{length-served}
@@ -45,19 +45,8 @@ module _ {A : Type 0} where
       (λ _. fair-refusal (Room needed) (omega arith) k)
       (λ _. record { quiet = λ h. absurd (omega arith); counted = λ _. e; small = k })
 
-  fair-unless : (a : Answer) {l : Left A} → placeOf a < 65536 → Fair l → Fair (unless a l)
-  fair-unless (Done n) k f = f
-  fair-unless Mode k f = fair-refusal Mode (omega arith) k
-  fair-unless (Broken a) k f = fair-refusal (Broken a) (omega arith) k
-  fair-unless (Tag a) k f = fair-refusal (Tag a) (omega arith) k
-  fair-unless (Size a) k f = fair-refusal (Size a) (omega arith) k
-  fair-unless (Field a) k f = fair-refusal (Field a) (omega arith) k
-  fair-unless (Wiring a) k f = fair-refusal (Wiring a) (omega arith) k
-  fair-unless (Ends x) k f = fair-refusal (Ends x) (omega arith) k
-  fair-unless (Late x) k f = fair-refusal (Late x) (omega arith) k
-  fair-unless (Stalled x) k f = fair-refusal (Stalled x) (omega arith) k
-  fair-unless (Room n) k f = fair-refusal (Room n) (omega arith) k
-  fair-unless (Result a) k f = fair-refusal (Result a) (omega arith) k
+  fair-unless : (a : Answer) (l : Left A) → placeOf a < 65536 → Fair l → Fair (unless a l)
+  fair-unless a l k f = if-cases Fair (eq (numberOf a) 0) l (refusal a) (λ _. f) (λ h. fair-refusal a (omega arith) k)
 
 -- ---- the places of a netlist and a result
 
@@ -95,7 +84,7 @@ pub analysis-fair : (s : List ℕ) (room : ℕ) → Fair (analysisOf s room)
 unfolding analysisOf analysisOn
 analysis-fair s room =
     let b = boardOf s in
-    fair-unless (takenOf s) (taken-small s) (fair-room room (length (b .kinds)) (slacks (netOn b) (b .bases)) (length-slacks (netOn b) (b .bases)) (omega (arith, few-parts s)))
+    fair-unless (takenOf s) _ (taken-small s) (fair-room room (length (b .kinds)) (slacks (netOn b) (b .bases)) (length-slacks (netOn b) (b .bases)) (omega (arith, few-parts s)))
 
 -- a component that is named is one
 abbrev Small : Netlist → Outcome → Type 0
@@ -120,7 +109,7 @@ budget-fair m s room =
     let n = netOn (boardOf s) in
     let b = boardOf s .bases in
     if-cases Fair (is (known m)) _ (refusal Mode)
-    (λ _. fair-unless (takenOf s) (taken-small s) (outcome-fair m n b room (budgetOf m n b) (few-parts s) (outcome-small m n b)))
+    (λ _. fair-unless (takenOf s) _ (taken-small s) (outcome-fair m n b room (budgetOf m n b) (few-parts s) (outcome-small m n b)))
     (λ _. fair-refusal Mode (omega arith) (omega arith))
 
 pub reads-fair : (s q : List ℕ) (room : ℕ) → Fair (readBackOf s q room)
@@ -128,7 +117,7 @@ unfolding readBackOf boundsOn
 reads-fair s q room =
     let sv = servedOf (boardOf s .kinds) in
     let b = boardOf s .bases in
-    fair-unless (bothOf s q) (both-small s q)
+    fair-unless (bothOf s q) _ (both-small s q)
     (fair-room room (length (boardOf s .kinds)) (boundsRead sv b (saidOf s q)) (length-read sv b (saidOf s q) ∙ length-served (boardOf s .kinds)) (omega (arith, few-parts s)))
 
 -- ---- room for more than 1,024 numbers is never asked for

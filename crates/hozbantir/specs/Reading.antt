@@ -22,7 +22,7 @@ use Rattle.results.specs.Accepted as Q
 use Rattle.hozbantir.specs.declared.answers.Answer.{Answer}
 use Rattle.hozbantir.specs.declared.answers.Answer.the-variants.{Done, Room, Result}
 use Rattle.hozbantir.specs.Answers.{numberOf, placeOf, inRoom, onVerdict, onTold, Leaves}
-use Rattle.hozbantir.specs.AnswerLaws.{Refused, unless-refused, verdict-good, room-short, room-enough}
+use Rattle.hozbantir.specs.AnswerLaws.{Refused, unless-refused, unless-done, verdict-good, room-short, room-enough}
 use Rattle.hozbantir.specs.Calls.{takenOf, resultOn, bothOf, saidOf, boundsOn, readBackOf, ReadsBack}
 use Rattle.hozbantir.specs.CallLaws.{both-refused, both-taken}
 use Rattle.hozbantir.specs.Taken.{Taken, accepted-taken}
@@ -52,6 +52,19 @@ module _ {ks : List ℕ} {b : List ℤ} {q sv incs : List ℕ} {told : Told} (e 
     marks = e;
     says = λ {n} d. h .read w ∙ rw e refl;
   }
+
+-- n places of each of four arrays
+pub record Fronts (n kinds bases marks incs : ℕ) : Type 0 where
+  pub few : n ≤ 1024
+  pub kinds-all : n ≤ kinds
+  pub bases-all : n ≤ bases
+  pub marks-all : n ≤ marks
+  pub incs-all : n ≤ incs
+
+-- marks and increments that were put in the first n places of their arrays
+pub listened-front : {ks : List ℕ} {b : List ℤ} {q sv incs : List ℕ} {r : Answer} {n : ℕ} (sv₀ incs₀ : List ℕ) → length sv ≡ n → length incs ≡ n → Listened ks b q r sv incs
+    → Listened ks b q r (take n (sv ++ drop n sv₀)) (take n (incs ++ drop n incs₀))
+listened-front {sv = sv} {incs} {n = n} sv₀ incs₀ p i l = rw (take-at sv (drop n sv₀) n p, take-at incs (drop n incs₀) n i) l
 
 -- ---- netlist and result
 
@@ -97,23 +110,16 @@ module _ {s : List ℕ} {v : Verdict} {a : Arrays} (j : Judges s v a) (q : List 
   pub both-not : {sv incs : List ℕ} → ((n m : ℕ) → v ≡ J.Good n m → ⊥) → r ≡ onVerdict v (Done 0) → Both s q r (a .bs) sv incs
   both-not h e = let (f, g) = both-refused j h e q in record { answer = f; held = λ {n} d. absurd (g n d) }
 
-  -- marks and increments were put in the first n places of their arrays
-  pub both-heard : {n m : ℕ} {sv incs : List ℕ} (sv₀ incs₀ : List ℕ) → v ≡ J.Good n m → Listened (take n (a .ks)) (take n (a .bs)) q r sv incs → length sv ≡ n → length incs ≡ n
-      → Both s q r (a .bs) (sv ++ drop n sv₀) (incs ++ drop n incs₀)
-  both-heard {n} {m} {sv} {incs} sv₀ incs₀ e l p i = record { answer = both-taken j e q (l .answer); held = held′ }
+  pub both-heard : {n m : ℕ} {sv incs : List ℕ} → v ≡ J.Good n m → n ≤ length (a .ks) → Listened (take n (a .ks)) (take n (a .bs)) q r (take n sv) (take n incs) → Both s q r (a .bs) sv incs
+  both-heard {n} {m} {sv} {incs} e few l = record { answer = both-taken j e q (l .answer); held = held′ }
     where
       b : Board-in (boardOf s) n m a
       b = rw e at (j .decodes)
 
-      held′ : {c : ℕ} → r ≡ Done c → Told-in s q c (a .bs) (sv ++ drop n sv₀) (incs ++ drop n incs₀)
+      held′ : {c : ℕ} → r ≡ Done c → Told-in s q c (a .bs) sv incs
       held′ {c} d =
-          let count = result-taken (take n (a .ks)) (take n (a .bs)) q (sym (l .answer) ∙ d) .1 in
-          let same : c ≡ n = count ∙ sym (length-served (take n (a .ks))) ∙ sym (ap length (l .marks)) ∙ p in
-          rw same (record {
-            bases = b .bases;
-            marks = take-at sv (drop n sv₀) n p ∙ l .marks ∙ rw (b .kinds) refl;
-            increments = take-at incs (drop n incs₀) n i ∙ l .says d ∙ rw (b .kinds, b .bases) refl;
-          })
+          let same : c ≡ n = result-taken (take n (a .ks)) (take n (a .bs)) q (sym (l .answer) ∙ d) .1 ∙ length-take-le n (a .ks) few in
+          rw same (record { bases = b .bases; marks = l .marks ∙ rw (b .kinds) refl; increments = l .says d ∙ rw (b .kinds, b .bases) refl })
 
 -- ---- the bounds
 
@@ -165,4 +171,4 @@ module _ {s q : List ℕ} {r : Answer} {bs : List ℤ} {sv incs : List ℕ} (b :
     reads-done p =
         let a = both-agree s q done .3 in
         let l = b .held e in
-        rw (done, sym (a .count)) (rw (l .bases, l .marks, l .increments) at p)
+        unless-done (bothOf s q) _ (ap numberOf done) (rw (sym (a .count)) (rw (l .bases, l .marks, l .increments) at p))

@@ -4,7 +4,7 @@ use mathlib.Core.List.{List}
 use Prim.Native.Nat.{ℕ, _≤_}
 use native.Mathlib.Omega.{arith}
 use lib.IntN.{ℤ}
-use lib.ListN.{length, take, replicate, length-replicate}
+use lib.ListN.{length, take}
 use lib.Seq.{length-take-le}
 use Rattle.circuit.specs.Netlist.{Netlist, netlist, servedOf, Based}
 use Rattle.circuit.specs.Times.{Accepted}
@@ -54,7 +54,7 @@ pub record Filled (n m : ℕ) (a : Arrays) : Type 0 where
 pub filled-few : {n m : ℕ} {a : Arrays} → Filled n m a → n ≤ 1024
 filled-few {n} {a = a} f = omega (arith, f .taken .accepted .judged .few, length-take-le n (a .ks) (f .kinds-all))
 
-pub good-filled : {s : List ℕ} {v : Verdict} {n m : ℕ} {a : Arrays} → v ≡ Good n m → Judges s v a → LongParts (a .ks) (a .bs) (a .tm) → LongWires (a .fs) (a .ts) → Filled n m a
+good-filled : {s : List ℕ} {v : Verdict} {n m : ℕ} {a : Arrays} → v ≡ Good n m → Judges s v a → LongParts (a .ks) (a .bs) (a .tm) → LongWires (a .fs) (a .ts) → Filled n m a
 good-filled {s} {v} {n} {m} {a} e j p w =
     let q = accepted s (sym (j .judged) ∙ e) in
     let b : Board-in (boardOf s) n m a = rw e at (j .decodes) in
@@ -69,6 +69,10 @@ good-filled {s} {v} {n} {m} {a} e j p w =
       tos-all = rw (w .ts-long) fewer;
     }
 
--- a part of a new array
-pub length-first : {A : Type 0} (n m : ℕ) (x : A) → n ≤ m → length (take n (replicate m x)) ≡ n
-length-first n m x h = length-take-le n (replicate m x) (omega (arith, length-replicate m x))
+-- the same, of arrays that were as long before the reader filled them
+pub kept-filled : {s : List ℕ} {v : Verdict} {n m : ℕ} {a : Arrays} {ks fs ts : List ℕ} {bs tm : List ℤ} → v ≡ Good n m → Judges s v a → LongParts ks bs tm → LongWires fs ts
+    → length (a .ks) ≡ length ks → length (a .bs) ≡ length bs → length (a .tm) ≡ length tm → length (a .fs) ≡ length fs → length (a .ts) ≡ length ts → Filled n m a
+kept-filled e j p w f g h k l =
+    good-filled e j
+    (record { ks-long = f ∙ p .ks-long; bs-long = g ∙ p .bs-long; tm-long = h ∙ p .tm-long })
+    (record { fs-long = k ∙ w .fs-long; ts-long = l ∙ w .ts-long })

@@ -54,11 +54,10 @@ fn budget_on(
     from: &[u16],
     to: &[u16],
 ) -> Answer
-    requires { ⌜ Taken (netlist (now kinds) (now times) (now from) (now to)) (now bases) × (mode ≤ 1) × (length (now d) ≡ length (now kinds)) × (length (now incs) ≡ length (now kinds)) ⌝ }
-    requires { ⌜ Desk (length (now kinds)) (length (now served)) (length (now arr)) (length (now req)) (length (now seg)) ⌝ }
+    requires { ⌜ Taken (netlist (now kinds) (now times) (now from) (now to)) (now bases) × (mode ≤ 1) × (length (now d) ≡ length (now kinds)) × (length (now incs) ≡ length (now kinds)) × Desk (length (now kinds)) (length (now served)) (length (now arr)) (length (now req)) (length (now seg)) ⌝ }
     ensures { λ r. ⌜ Leaves (budgetOn mode (netlist (now (kinds .entry)) (now (times .entry)) (now (from .entry)) (now (to .entry))) (now (bases .entry)) (length (now (out .entry)))) (now (out .entry)) r (now (out .exit)) ⌝ }
 {
-    rounds::fill_served(served, kinds);
+    marks::fill_served(served, kinds);
     match rounds::budget_in(
         mode,
         d,
@@ -74,16 +73,9 @@ fn budget_on(
     ) {
         Outcome::Late(x) => Answer::Late(x),
         Outcome::Stalled(x) => Answer::Stalled(x),
-        Outcome::Budget { share, rounds } => write_in(
-            mode,
-            share,
-            rounds,
-            out,
-            incs,
-            d,
-            served,
-            bases,
-        ),
+        Outcome::Budget { share, rounds } => {
+            write_in(mode, share, rounds, out, incs, d, served, bases)
+        }
     }
 }
 

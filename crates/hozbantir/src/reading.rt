@@ -6,7 +6,7 @@ ghost use Rattle.netlists.specs.Held.{LongParts, LongWires};
 ghost use Rattle.results.specs.Result.{boundsRead};
 ghost use Rattle.hozbantir.specs.Answers.{inRoom, Leaves};
 ghost use Rattle.hozbantir.specs.Calls.{ReadsBack};
-ghost use Rattle.hozbantir.specs.Reading.{Listened, Both, Listed};
+ghost use Rattle.hozbantir.specs.Reading.{Listened, Fronts, Both, Listed};
 use crate::answers::Answer;
 use crate::answers::refused;
 use netlists::Verdict;
@@ -23,7 +23,7 @@ fn judge_on(
     requires { ⌜ (length (now served) ≡ length (now kinds)) × (length (now bases) ≡ length (now kinds)) × (length (now incs) ≡ length (now kinds)) × (length (now kinds) ≤ 1024) ⌝ }
     ensures { λ r. ⌜ Listened (now (kinds .entry)) (now (bases .entry)) (now (result .entry)) r (now (served .exit)) (now (incs .exit)) ⌝ }
 {
-    rounds::fill_served(served, kinds);
+    marks::fill_served(served, kinds);
     match results::judge_result(result, served, bases, incs) {
         Told::Wrong(place) => Answer::Result(place),
         Told::Result {
@@ -32,6 +32,27 @@ fn judge_on(
             rounds: _,
         } => Answer::Done(kinds.len()),
     }
+}
+
+// The same on arrays, of which the netlist fills n places.
+fn judge_in(
+    n: usize,
+    result: &[u8],
+    kinds: &[u8],
+    bases: &[i64],
+    served: &mut [u8],
+    incs: &mut [u32],
+) -> Answer
+    requires { ⌜ Fronts n (length (now kinds)) (length (now bases)) (length (now served)) (length (now incs)) ⌝ }
+    ensures { λ r. ⌜ Listened (take n (now (kinds .entry))) (take n (now (bases .entry))) (now (result .entry)) r (take n (now (served .exit))) (take n (now (incs .exit))) ⌝ }
+{
+    judge_on(
+        result,
+        &kinds[..n],
+        &bases[..n],
+        &mut served[..n],
+        &mut incs[..n],
+    )
 }
 
 // Netlist and result, judged in this order: where both are taken, Done with how many components there are, and the arrays hold them.
@@ -53,13 +74,7 @@ fn judge_both(
     let Verdict::Good(n, _) = v else {
         return refused(v);
     };
-    judge_on(
-        result,
-        &kinds[..n],
-        &bases[..n],
-        &mut served[..n],
-        &mut incs[..n],
-    )
+    judge_in(n, result, kinds, bases, served, incs)
 }
 
 // The bounds of n components, if the buffer has room.

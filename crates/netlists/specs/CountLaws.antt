@@ -1,7 +1,5 @@
--- The counting loop, and the search for the lowest fault.
+-- The counting loop, and the lowest fault by its counts.
 use mathlib.Core.Path.{_≡_, refl, sym, ap, _∙_}
-use mathlib.Core.Logic.{⊎-elim}
-use mathlib.Core.Bool.{Bool, true, false}
 use mathlib.Core.List.{List}
 use Prim.Native.Nat.{ℕ, _+_, _≤_, _<_}
 use native.Mathlib.Decide.{ℕ-discrete}
@@ -9,11 +7,11 @@ use native.Mathlib.Numerals.{add-one}
 use native.Mathlib.Omega.{arith}
 use lib.Dec.{eqb}
 use lib.ListN.{length, getD, set, take, replicate, length-set, length-replicate, getD-replicate}
-use lib.Seq.{length-take-le, ext-getD, getD-set-same, getD-set-other}
+use lib.Seq.{ext-getD, getD-set-same, getD-set-other}
 use borrow.Author.Tests.{eq-eqb, ne-eqb}
-use Rattle.whole.specs.Pick.{lt, decide, if-yes, if-no}
+use Rattle.whole.specs.Pick.{if-yes, if-no}
 use Rattle.circuit.specs.Lists.{tabulate, count, lowest}
-use Rattle.circuit.specs.ListLaws.{clash, length-tabulate, getD-tabulate, count-le, lowest-le, lowest-is, lowest-first}
+use Rattle.circuit.specs.ListLaws.{length-tabulate, getD-tabulate, count-le}
 use Rattle.netlists.specs.declared.Verdict.{Verdict}
 use Rattle.netlists.specs.declared.Verdict.the-variants.{Good, Ends}
 use Rattle.netlists.specs.Judge.{ends, faulty}
@@ -72,19 +70,6 @@ module _ {l : List ℕ} {n : ℕ} {cs : List ℕ} where
   pub counting-next : {j : ℕ} {cs′ : List ℕ} → Counting l n cs j → getD l j 0 < n → cs′ ≡ set cs (getD l j 0) (getD cs (getD l j 0) 0 + 1) → Counting l n cs′ (j + 1)
   counting-next {j} c h e = record { is = e ∙ rw (c .is) (one-up (upTo l j) (upTo l (j + 1)) n (getD l j 0) h (count-here l j refl) (λ i q. count-other l j q)) }
 
--- ---- the lowest
-
-module _ (f : ℕ → Bool) (n x : ℕ) (none : (y : ℕ) → y < x → f y ≡ false) where
-  -- no lower number passes, so it is the lowest where it passes, and where it is the count
-  not-lower : x ≤ n → x ≤ lowest f n
-  not-lower h = ⊎-elim (λ g. absurd (clash (sym (lowest-is f n (omega arith)) ∙ none (lowest f n) g))) (λ g. g) (decide (lt (lowest f n) x))
-
-  pub lowest-found : x < n → f x ≡ true → x ≡ lowest f n
-  lowest-found h e = let g = not-lower (omega arith) in ⊎-elim (λ l. absurd (clash (sym e ∙ lowest-first f n x l))) (λ l. omega arith) (decide (lt x (lowest f n)))
-
-  pub lowest-none : x ≡ n → x ≡ lowest f n
-  lowest-none h = let g = not-lower (omega arith) in omega (arith, lowest-le f n)
-
 -- ---- the verdict
 
 -- the lowest fault, by counts that were made so
@@ -98,7 +83,3 @@ module _ (ks fs ts : List ℕ) {v : Verdict} {n m x : ℕ} (good : v ≡ Good n 
 
   pub fault-none : n ≤ x → Good n m ≡ endedBy v ks fs ts
   fault-none h = rw good (if-no _ _ (rw found at h) refl)
-
--- the front of zeros
-pub length-part : (n m : ℕ) → n ≤ m → length {A = ℕ} (take n (replicate m 0)) ≡ n
-length-part n m h = length-take-le n (replicate m 0) (omega (arith, length-replicate {A = ℕ} m 0))

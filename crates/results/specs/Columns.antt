@@ -4,7 +4,6 @@ use mathlib.Core.Path.{_≡_}
 use mathlib.Core.Bool.{cond}
 use mathlib.Core.List.{List, []}
 use Prim.Native.Nat.{ℕ, _≤_}
-use lib.Dec.{eqb}
 use lib.IntN.{ℤ, pos}
 use lib.Signed.{_≤ℤ_}
 use lib.ListN.{length, getD}
@@ -28,10 +27,6 @@ bases-within {bases} h g = record { most = λ x. let l = h x in let m = g x in o
 -- "an increment above 200,000,000" is refused
 pub record Increments (incs : List ℕ) : Type 0 where
   pub most : (x : ℕ) → getD incs x 0 ≤ 200000000
-
--- one component's part of the count
-abbrev pub countAt : ℕ → ℕ
-countAt mark = cond (eqb mark 1) 1 0
 
 -- the bytes of component x in a result, and how many they are
 abbrev pub widthAt : List ℕ → ℕ → ℕ

@@ -15,6 +15,7 @@ use Rattle.whole.specs.Whole.{up}
 use Rattle.whole.specs.Bytes.{bytesOf, putAt, put-after, length-bytes}
 use Rattle.circuit.specs.Lists.{at, count}
 use Rattle.circuit.specs.Netlist.{marked}
+use Rattle.marks.specs.Counting.{count-next}
 use Rattle.results.specs.Result.{summaryOf, boundOf, boundTag, boundsOf, encode, needed}
 use Rattle.results.specs.Columns.{widthAt, boundAt}
 
@@ -88,19 +89,15 @@ length-bound-at tag sv bases incs x = go (marked sv x)
     go true = length-bound tag x (up (at bases x)) (getD incs x 0)
     go false = refl
 
-pub count-next : (f : ℕ → Bool) (x : ℕ) → count f (x + 1) ≡ cond (f x) 1 0 + count f x
-unfolding count
-count-next f x = rw (add-one x)
-
 pub count-grows : (f : ℕ → Bool) (m n : ℕ) → m ≤ n → count f m ≤ count f n
 unfolding count
 count-grows f m zero h = let e : m ≡ 0 = omega arith in rw e (omega arith)
 count-grows f m (suc n) h = ⊎-elim (λ e. rw e (omega arith)) (λ l. let r = count-grows f m n (omega arith) in omega arith) (eq-or-lt-of-le h)
 
 pub width-next : (sv : List ℕ) (x : ℕ) → 13 * count (marked sv) (x + 1) ≡ 13 * count (marked sv) x + widthAt sv x
-width-next sv x = rw (count-next (marked sv) x) (go (marked sv x))
+width-next sv x = rw (← count-next (marked sv) x refl refl) (go (marked sv x))
   where
-    go : (b : Bool) → 13 * (cond b 1 0 + count (marked sv) x) ≡ 13 * count (marked sv) x + cond b 13 0
+    go : (b : Bool) → 13 * (count (marked sv) x + cond b 1 0) ≡ 13 * count (marked sv) x + cond b 13 0
     go true = omega arith
     go false = omega arith
 

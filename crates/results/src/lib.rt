@@ -9,7 +9,7 @@ ghost use Rattle.circuit.specs.Netlist.{marked};
 ghost use Rattle.records.specs.Record.{recordAt};
 ghost use Rattle.results.specs.Result.{summaryOf, boundOf, boundTag, boundsOf, encode, needed, summaryOk, boundOk, stepOf, boundsAt, boundOn, boundsRead};
 ghost use Rattle.results.specs.Judging.{summaryTold, summaryFound, boundTold, boundFound, held, moved, Ended, Heard};
-ghost use Rattle.results.specs.Columns.{Columns, Bases, countAt, widthAt, boundAt, Increments};
+ghost use Rattle.results.specs.Columns.{Columns, Bases, widthAt, boundAt, Increments};
 use records::Found;
 
 // The tags of the two records, in the writer and in the judge.
@@ -30,33 +30,12 @@ enum Bound {
     Bad(usize),
 }
 
-// 1 for a served component, else 0.
-fn one(mark: u8) -> usize
-    ensures { λ r. ⌜ (r ≡ countAt mark) × (r ≤ 1) ⌝ }
-{
-    if mark == 1 { 1 } else { 0 }
-}
-
-// How many components are served.
-fn served_count(served: &[u8]) -> usize
-    requires { ⌜ length (now served) ≤ 1024 ⌝ }
-    ensures { λ r. ⌜ (r ≡ count (marked (now (served .entry))) (length (now (served .entry)))) × (r ≤ 1024) ⌝ }
-{
-    let mut n: usize = 0;
-    let mut x: usize = 0;
-    while x < served.len() {
-        n += one(served[x]);
-        x += 1;
-    }
-    n
-}
-
 // What room a result takes.
 pub fn needed_bytes(served: &[u8]) -> usize
     requires { ⌜ length (now served) ≤ 1024 ⌝ }
     ensures { λ r. ⌜ r ≡ needed (now (served .entry)) ⌝ }
 {
-    10 + 13 * served_count(served)
+    10 + 13 * marks::count_served(served)
 }
 
 // A base delay as a file has it.
@@ -287,7 +266,7 @@ pub fn judge_result(s: &[u8], served: &[u8], bases: &[i64], incs: &mut [u32]) ->
     requires { ⌜ Columns (now served) (now bases) (now incs) ⌝ }
     ensures { λ r. ⌜ Heard (now (s .entry)) (now (served .entry)) (now (bases .entry)) r (now (incs .exit)) ⌝ }
 {
-    let told = summary_at(s, served_count(served));
+    let told = summary_at(s, marks::count_served(served));
     match told {
         Told::Wrong(place) => Told::Wrong(place),
         Told::Result {

@@ -1,4 +1,3 @@
-pub mod Marks
 pub mod Sharing
 pub mod Round
 pub mod Run

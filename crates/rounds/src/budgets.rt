@@ -7,8 +7,7 @@ ghost use Rattle.circuit.specs.Budget.{shareIn, startIn};
 ghost use Rattle.rounds.specs.Round.{Desk};
 ghost use Rattle.rounds.specs.Budgets.{Given, Budgets};
 use crate::descent::share;
-use crate::marks::count_served;
-use crate::marks::lift;
+use crate::lifts::lift;
 use crate::runs::Ended;
 use crate::runs::run;
 
@@ -101,7 +100,7 @@ pub fn budget_in(
         return Outcome::Late(x);
     }
     let t = start_in(mode, d, arr, b, served, kinds, times, from, to);
-    let limit = count_served(served);
+    let limit = marks::count_served(served);
     match run(d, arr, req, seg, served, kinds, times, from, to, limit) {
         Ended::Stalled(y) => Outcome::Stalled(y),
         Ended::Done(rounds) => Outcome::Budget { share: t, rounds },

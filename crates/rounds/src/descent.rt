@@ -7,7 +7,7 @@ ghost use Rattle.circuit.specs.Netlist.{netlist};
 ghost use Rattle.circuit.specs.Times.{inTime};
 ghost use Rattle.circuit.specs.Share.{lifted, shareOf};
 ghost use Rattle.rounds.specs.Sharing.{Sharing};
-use crate::marks::lift;
+use crate::lifts::lift;
 
 // With t more for each who is served, worked out in d and arr.
 fn fits(

@@ -2,7 +2,7 @@
 mod budgets;
 mod descent;
 mod increments;
-mod marks;
+mod lifts;
 mod runs;
 mod turns;
 
@@ -10,8 +10,6 @@ pub use budgets::Outcome;
 pub use budgets::budget_in;
 pub use descent::share;
 pub use increments::increments_in;
-pub use marks::count_served;
-pub use marks::fill_served;
 pub use runs::Ended;
 pub use runs::run;
 pub use turns::round;

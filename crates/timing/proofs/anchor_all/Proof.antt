@@ -19,7 +19,7 @@ abbrev μ-loop : tie.MeasureT-loop
 μ-loop out₀ kinds times k z i₀ out i = length out₀ - i
 
 loop-holds : tie.Need-loop-holds Inv-loop μ-loop
-loop-holds c = (search needs, filling-starts)
+loop-holds c = (search needs, filling-starts _)
 
 shared-slice-read-anchored : tie.Need-shared-slice-read-anchored Inv-loop μ-loop
 shared-slice-read-anchored c = search needs
@@ -49,7 +49,7 @@ loop-again : tie.Need-loop-again Inv-loop μ-loop
 unfolding anchor
 loop-again c =
     let l = c .before .before .before .before .loop .inv .1 in
-    (search needs, filling-next l (search needs) (via (c .anchored .ok) (c .anchored .ensures ∙ simp (back, c .before .anchored-arg .given))))
+    (search needs, filling-next _ l (search needs) (via (c .anchored .ok) (c .anchored .ensures ∙ simp (back, c .before .anchored-arg .given))))
 
 same-length : tie.Need-same-length Inv-loop μ-loop
 same-length c = search needs
@@ -57,7 +57,7 @@ same-length c = search needs
 returns : tie.Need-returns Inv-loop μ-loop
 returns c =
     let a = c .before .before .before in
-    filling-ends (c .before .loop .inv .1) (omega arith) ∙ rw (toZ-ofZ w64 (a .args .z) (a .fits .z))
+    filling-ends _ (c .before .loop .inv .1) (omega arith) ∙ rw (toZ-ofZ w64 (a .args .z) (a .fits .z))
 
 pub anchor-all-spec : {M : Type 1} → statement M
 anchor-all-spec =

@@ -18,7 +18,7 @@ abbrev μ-loop : tie.MeasureT-loop
 μ-loop out₀ arr req i₀ out i = length out₀ - i
 
 loop-holds : tie.Need-loop-holds Inv-loop μ-loop
-loop-holds c = (search needs, filling-starts)
+loop-holds c = (search needs, filling-starts _)
 
 slack-at-requires : tie.Need-slack-at-requires Inv-loop μ-loop
 slack-at-requires c κs = search needs
@@ -41,13 +41,13 @@ loop-less c = search needs
 loop-again : tie.Need-loop-again Inv-loop μ-loop
 loop-again c =
     let v = toZ-ofZ w32 _ (record { sfits = c .narrow .ok }) ∙ c .narrow .ensures ∙ via (c .before .slack-at .ok) (c .before .slack-at .ensures) in
-    (search needs, filling-next (c .before .before .before .loop .inv .1) (search needs) v)
+    (search needs, filling-next _ (c .before .before .before .loop .inv .1) (search needs) v)
 
 same-length : tie.Need-same-length Inv-loop μ-loop
 same-length c = search needs
 
 returns : tie.Need-returns Inv-loop μ-loop
-returns c = filling-ends (c .before .loop .inv .1) (omega arith)
+returns c = filling-ends _ (c .before .loop .inv .1) (omega arith)
 
 pub slacks-in-spec : {M : Type 1} → statement M
 slacks-in-spec =

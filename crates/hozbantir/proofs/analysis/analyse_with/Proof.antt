@@ -1,7 +1,7 @@
 use mathlib.Core.Path.{_∙_}
 use Rattle.hozbantir.specs.Tags.{not-good}
 use Rattle.hozbantir.specs.CallLaws.{analyses-refused, analyses-taken}
-use Rattle.hozbantir.specs.Taken.{good-filled}
+use Rattle.hozbantir.specs.Taken.{kept-filled}
 use borrow.Author.Needs.{needs}
 use Rattle.hozbantir.proofs.analysis.analyse_with.Statement.{statement}
 use Rattle.hozbantir.proofs.analysis.analyse_with.Tie as tie
@@ -37,9 +37,7 @@ analyse-in-requires : tie.Need-analyse-in-requires
 analyse-in-requires c κs = let p = c .before .before .before .before .before .before .before .before .before .before .before .before .before .before .before .before .before .before .before .before .before .before .before .before .before .before .before .pre in
     let r = c .before .before .before .before .before .before .before .before .before .before .before .before .before .before .before .before .before .read-netlist in
     let l = r .kept .1 in
-    good-filled (c .before .before .before .before .before .before .before .v .given .1) (r .ensures)
-    (record { ks-long = l .0 ∙ p .0 .ks-long; bs-long = l .1 .0 ∙ p .0 .bs-long; tm-long = l .1 .1 .0 ∙ p .0 .tm-long })
-    (record { fs-long = l .1 .1 .1 .0 ∙ p .1 .fs-long; ts-long = l .1 .1 .1 .1 .0 ∙ p .1 .ts-long })
+    kept-filled (c .before .before .before .before .before .before .before .v .given .1) (r .ensures) (p .0) (p .1) (l .0) (l .1 .0) (l .1 .1 .0) (l .1 .1 .1 .0) (l .1 .1 .1 .1 .0)
 
 same-length-6 : tie.Need-same-length-6
 same-length-6 c = search needs

@@ -1,4 +1,4 @@
-use Rattle.hozbantir.specs.Taken.{length-first}
+use Rattle.circuit.specs.ListLaws.{length-first}
 use denote.Ref.{now}
 use lib.IntN.{pos}
 use mathlib.Core.Path.{sym}

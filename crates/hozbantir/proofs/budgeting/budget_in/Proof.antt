@@ -1,4 +1,5 @@
-use Rattle.hozbantir.specs.Taken.{length-first, filled-few}
+use Rattle.circuit.specs.ListLaws.{length-first}
+use Rattle.hozbantir.specs.Taken.{filled-few}
 use denote.Ref.{now}
 use mathlib.Core.Path.{sym, ap, _∙_}
 use native.Mathlib.Omega.{arith}
@@ -73,7 +74,7 @@ budget-on-requires c κs = let a = c .before .before .before .before .before .be
     let k = sym (length-take-le (a .args .n) (now (a .args .kinds)) (f .kinds-all)) in
     let z = length-first (a .args .n) 1024 (pos 0) few ∙ k in
     let u = length-first {A = ℕ} (a .args .n) 1024 0 few ∙ k in
-    ((f .taken, a .pre .1, z, u), record { marks-all = u; arrivals-all = z; requireds-all = z; room-all = length-first {A = ℕ} (2 * a .args .n + 1) 2049 0 (omega arith) ∙ ap (λ j. 2 * j + 1) k })
+    (f .taken, a .pre .1, z, u, record { marks-all = u; arrivals-all = z; requireds-all = z; room-all = length-first {A = ℕ} (2 * a .args .n + 1) 2049 0 (omega arith) ∙ ap (λ j. 2 * j + 1) k })
 
 same-length : tie.Need-same-length
 same-length c = search needs

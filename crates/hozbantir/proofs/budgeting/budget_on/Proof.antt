@@ -10,7 +10,7 @@ fill-served-requires c κs = search needs
 
 budget-in-requires : tie.Need-budget-in-requires
 budget-in-requires c κs = let p = c .before .before .before .before .before .before .before .before .before .before .before .before .before .before .before .before .pre in
-    ((taken-given (p .0 .0) (c .before .before .before .before .before .before .before .fill-served .ensures), p .0 .2), record { marks-all = c .before .before .before .before .before .before .before .fill-served .kept .0 ∙ p .1 .marks-all; arrivals-all = p .1 .arrivals-all; requireds-all = p .1 .requireds-all; room-all = p .1 .room-all })
+    ((taken-given (p .0) (c .before .before .before .before .before .before .before .fill-served .ensures), p .2), record { marks-all = c .before .before .before .before .before .before .before .fill-served .kept .0 ∙ p .4 .marks-all; arrivals-all = p .4 .arrivals-all; requireds-all = p .4 .requireds-all; room-all = p .4 .room-all })
 
 enum-known-x : tie.Need-enum-known-x
 enum-known-x c = search needs
@@ -22,7 +22,7 @@ enum-known-share : tie.Need-enum-known-share
 enum-known-share c = search needs
 
 write-in-requires : tie.Need-write-in-requires
-write-in-requires c κs = let p = c .before .before .before .before .before .before .before .before .before .before .before .before .before .before .before .before .before .before .before .before .before .before .before .before .before .before .before .before .before .pre in outcome-asks (p .0 .0) (c .before .before .before .before .before .before .before .before .before .before .before .before .budget-in .ensures) (c .before .before .before .before .before .before .before .before .before .before .before .before .before .before .before .before .before .before .before .before .fill-served .ensures) (c .before .before .before .before .before .share .given .1) (p .0 .1) (p .0 .3)
+write-in-requires c κs = let p = c .before .before .before .before .before .before .before .before .before .before .before .before .before .before .before .before .before .before .before .before .before .before .before .before .before .before .before .before .before .pre in outcome-asks (p .0) (c .before .before .before .before .before .before .before .before .before .before .before .before .budget-in .ensures) (c .before .before .before .before .before .before .before .before .before .before .before .before .before .before .before .before .before .before .before .before .fill-served .ensures) (c .before .before .before .before .before .share .given .1) (p .1) (p .3)
 
 same-length : tie.Need-same-length
 same-length c = search needs
@@ -40,7 +40,7 @@ same-length-5 : tie.Need-same-length-5
 same-length-5 c = search needs
 
 returns : tie.Need-returns
-returns c = outcome-late (c .before .before .before .before .before .before .before .before .before .before .before .before .before .before .before .before .before .before .before .before .before .before .before .before .before .pre .0 .0) (c .before .before .before .before .before .before .before .before .budget-in .ensures) _ (c .before .x .given .1)
+returns c = outcome-late (c .before .before .before .before .before .before .before .before .before .before .before .before .before .before .before .before .before .before .before .before .before .before .before .before .before .pre .0) (c .before .before .before .before .before .before .before .before .budget-in .ensures) _ (c .before .x .given .1)
 
 same-length-6 : tie.Need-same-length-6
 same-length-6 c = search needs
@@ -58,7 +58,7 @@ same-length-10 : tie.Need-same-length-10
 same-length-10 c = search needs
 
 returns-2 : tie.Need-returns-2
-returns-2 c = outcome-stalled (c .before .before .before .before .before .before .before .before .before .before .before .before .before .before .before .before .before .before .before .before .before .before .before .before .before .pre .0 .0) (c .before .before .before .before .before .before .before .before .budget-in .ensures) _ (c .before .x2 .given .1)
+returns-2 c = outcome-stalled (c .before .before .before .before .before .before .before .before .before .before .before .before .before .before .before .before .before .before .before .before .before .before .before .before .before .pre .0) (c .before .before .before .before .before .before .before .before .budget-in .ensures) _ (c .before .x2 .given .1)
 
 same-length-11 : tie.Need-same-length-11
 same-length-11 c = search needs
@@ -82,7 +82,7 @@ same-length-17 : tie.Need-same-length-17
 same-length-17 c = search needs
 
 returns-3 : tie.Need-returns-3
-returns-3 c = outcome-done (c .before .before .before .before .before .before .before .before .before .before .before .before .before .before .before .before .before .before .before .before .before .before .before .before .before .before .before .before .before .before .before .before .before .before .pre .0 .0) (c .before .before .before .before .before .before .before .before .before .before .before .before .before .before .before .before .before .budget-in .ensures) (c .before .before .before .before .before .before .before .before .before .before .before .before .before .before .before .before .before .before .before .before .before .before .before .before .before .fill-served .ensures) (c .before .before .before .before .before .before .before .before .before .before .share .given .1) (c .before .before .before .before .write-in .ensures)
+returns-3 c = outcome-done (c .before .before .before .before .before .before .before .before .before .before .before .before .before .before .before .before .before .before .before .before .before .before .before .before .before .before .before .before .before .before .before .before .before .before .pre .0) (c .before .before .before .before .before .before .before .before .before .before .before .before .before .before .before .before .before .budget-in .ensures) (c .before .before .before .before .before .before .before .before .before .before .before .before .before .before .before .before .before .before .before .before .before .before .before .before .before .fill-served .ensures) (c .before .before .before .before .before .before .before .before .before .before .share .given .1) (c .before .before .before .before .write-in .ensures)
 
 pub budget-on-spec : {M : Type 1} → statement M
 budget-on-spec =

@@ -1,7 +1,7 @@
 use Rattle.hozbantir.specs.Budgeting.{mode-known, mode-unknown}
 use Rattle.hozbantir.specs.CallLaws.{budgets-mode, budgets-refused, budgets-taken}
 use Rattle.hozbantir.specs.Tags.{not-good}
-use Rattle.hozbantir.specs.Taken.{good-filled}
+use Rattle.hozbantir.specs.Taken.{kept-filled}
 use mathlib.Core.Path.{_∙_}
 use borrow.Author.Needs.{needs}
 use Rattle.hozbantir.proofs.budgeting.budget_with.Statement.{statement}
@@ -41,9 +41,7 @@ budget-in-requires : tie.Need-budget-in-requires
 budget-in-requires c κs = let p = c .before .before .before .before .before .before .before .before .before .before .before .before .before .before .before .before .before .before .before .before .before .before .before .before .before .before .before .before .before .pre in
     let r = c .before .before .before .before .before .before .before .before .before .before .before .before .before .before .before .before .before .read-netlist in
     let l = r .kept .1 in (
-      good-filled (c .before .before .before .before .before .before .before .v .given .1) (r .ensures)
-          (record { ks-long = l .0 ∙ p .0 .ks-long; bs-long = l .1 .0 ∙ p .0 .bs-long; tm-long = l .1 .1 .0 ∙ p .0 .tm-long })
-          (record { fs-long = l .1 .1 .1 .0 ∙ p .1 .fs-long; ts-long = l .1 .1 .1 .1 .0 ∙ p .1 .ts-long }),
+      kept-filled (c .before .before .before .before .before .before .before .v .given .1) (r .ensures) (p .0) (p .1) (l .0) (l .1 .0) (l .1 .1 .0) (l .1 .1 .1 .0) (l .1 .1 .1 .1 .0),
       c .before .before .before .before .before .before .before .before .before .before .before .before .before .before .before .before .before .before .before .before .before .before .before .if1 .left,
     )
 

@@ -1,10 +1,7 @@
 use Rattle.hozbantir.specs.Reading.{both-not, both-heard}
 use Rattle.hozbantir.specs.Tags.{not-good}
-use Rattle.hozbantir.specs.Taken.{good-filled, filled-few}
-use denote.Ref.{now}
-use mathlib.Core.Path.{sym, _∙_}
+use Rattle.hozbantir.specs.Taken.{kept-filled, filled-few}
 use native.Mathlib.Omega.{arith}
-use lib.Seq.{length-take-le}
 use borrow.Author.Needs.{needs}
 use Rattle.hozbantir.proofs.reading.judge_both.Statement.{statement}
 use Rattle.hozbantir.proofs.reading.judge_both.Tie as tie
@@ -36,87 +33,13 @@ same-length-5 c = search needs
 returns : tie.Need-returns
 returns c = both-not (c .before .before .before .before .before .before .before .before .before .before .read-netlist .ensures) _ (not-good _ (c .before .match .keys2)) (c .refused .ensures)
 
-slice-reshare-prefix-judge-on : tie.Need-slice-reshare-prefix-judge-on
-slice-reshare-prefix-judge-on c = let p = c .before .before .before .before .before .before .before .before .before .before .before .before .before .before .before .before .before .before .before .before .before .before .before .before .pre in
-    let r = c .before .before .before .before .before .before .before .before .before .before .before .read-netlist in
-    let l = r .kept .1 in
-    let f = good-filled (c .before .v .given .1) (r .ensures)
-    (record { ks-long = l .0 ∙ p .0 .ks-long; bs-long = l .1 .0 ∙ p .0 .bs-long; tm-long = l .1 .1 .0 ∙ p .0 .tm-long })
-    (record { fs-long = l .1 .1 .1 .0 ∙ p .1 .fs-long; ts-long = l .1 .1 .1 .1 .0 ∙ p .1 .ts-long }) in
-    f .kinds-all
-
-slice-aggregate-judge-on : tie.Need-slice-aggregate-judge-on
-slice-aggregate-judge-on c = let p = c .before .before .before .before .before .before .before .before .before .before .before .before .before .before .before .before .before .before .before .before .before .before .before .before .before .pre in
-    let r = c .before .before .before .before .before .before .before .before .before .before .before .before .read-netlist in
-    let l = r .kept .1 in
-    let f = good-filled (c .before .before .v .given .1) (r .ensures)
-    (record { ks-long = l .0 ∙ p .0 .ks-long; bs-long = l .1 .0 ∙ p .0 .bs-long; tm-long = l .1 .1 .0 ∙ p .0 .tm-long })
-    (record { fs-long = l .1 .1 .1 .0 ∙ p .1 .fs-long; ts-long = l .1 .1 .1 .1 .0 ∙ p .1 .ts-long }) in
-    sym (length-take-le _ _ (f .kinds-all))
-
-slice-reshare-prefix-judge-on-2 : tie.Need-slice-reshare-prefix-judge-on-2
-slice-reshare-prefix-judge-on-2 c = let p = c .before .before .before .before .before .before .before .before .before .before .before .before .before .before .before .before .before .before .before .before .before .before .before .before .before .pre in
-    let r = c .before .before .before .before .before .before .before .before .before .before .before .before .read-netlist in
-    let l = r .kept .1 in
-    let f = good-filled (c .before .before .v .given .1) (r .ensures)
-    (record { ks-long = l .0 ∙ p .0 .ks-long; bs-long = l .1 .0 ∙ p .0 .bs-long; tm-long = l .1 .1 .0 ∙ p .0 .tm-long })
-    (record { fs-long = l .1 .1 .1 .0 ∙ p .1 .fs-long; ts-long = l .1 .1 .1 .1 .0 ∙ p .1 .ts-long }) in
-    f .bases-all
-
-slice-aggregate-judge-on-2 : tie.Need-slice-aggregate-judge-on-2
-slice-aggregate-judge-on-2 c = let p = c .before .before .before .before .before .before .before .before .before .before .before .before .before .before .before .before .before .before .before .before .before .before .before .before .before .before .pre in
-    let r = c .before .before .before .before .before .before .before .before .before .before .before .before .before .read-netlist in
-    let l = r .kept .1 in
-    let f = good-filled (c .before .before .before .v .given .1) (r .ensures)
-    (record { ks-long = l .0 ∙ p .0 .ks-long; bs-long = l .1 .0 ∙ p .0 .bs-long; tm-long = l .1 .1 .0 ∙ p .0 .tm-long })
-    (record { fs-long = l .1 .1 .1 .0 ∙ p .1 .fs-long; ts-long = l .1 .1 .1 .1 .0 ∙ p .1 .ts-long }) in
-    sym (length-take-le _ _ (f .bases-all))
-
-slice-relend-prefix-judge-on : tie.Need-slice-relend-prefix-judge-on
-slice-relend-prefix-judge-on c = let p = c .before .before .before .before .before .before .before .before .before .before .before .before .before .before .before .before .before .before .before .before .before .before .before .before .before .before .pre in
-    let r = c .before .before .before .before .before .before .before .before .before .before .before .before .before .read-netlist in
-    let l = r .kept .1 in
-    let f = good-filled (c .before .before .before .v .given .1) (r .ensures)
-    (record { ks-long = l .0 ∙ p .0 .ks-long; bs-long = l .1 .0 ∙ p .0 .bs-long; tm-long = l .1 .1 .0 ∙ p .0 .tm-long })
-    (record { fs-long = l .1 .1 .1 .0 ∙ p .1 .fs-long; ts-long = l .1 .1 .1 .1 .0 ∙ p .1 .ts-long }) in
-    omega (arith, filled-few f, p .2)
-
-slice-aggregate-judge-on-3 : tie.Need-slice-aggregate-judge-on-3
-slice-aggregate-judge-on-3 c = let p = c .before .before .before .before .before .before .before .before .before .before .before .before .before .before .before .before .before .before .before .before .before .before .before .before .before .before .before .pre in
-    let r = c .before .before .before .before .before .before .before .before .before .before .before .before .before .before .read-netlist in
-    let l = r .kept .1 in
-    let f = good-filled (c .before .before .before .before .v .given .1) (r .ensures)
-    (record { ks-long = l .0 ∙ p .0 .ks-long; bs-long = l .1 .0 ∙ p .0 .bs-long; tm-long = l .1 .1 .0 ∙ p .0 .tm-long })
-    (record { fs-long = l .1 .1 .1 .0 ∙ p .1 .fs-long; ts-long = l .1 .1 .1 .1 .0 ∙ p .1 .ts-long }) in
-    sym (length-take-le _ _ (omega (arith, filled-few f, p .2)))
-
-slice-relend-prefix-judge-on-2 : tie.Need-slice-relend-prefix-judge-on-2
-slice-relend-prefix-judge-on-2 c = let p = c .before .before .before .before .before .before .before .before .before .before .before .before .before .before .before .before .before .before .before .before .before .before .before .before .before .before .before .pre in
-    let r = c .before .before .before .before .before .before .before .before .before .before .before .before .before .before .read-netlist in
-    let l = r .kept .1 in
-    let f = good-filled (c .before .before .before .before .v .given .1) (r .ensures)
-    (record { ks-long = l .0 ∙ p .0 .ks-long; bs-long = l .1 .0 ∙ p .0 .bs-long; tm-long = l .1 .1 .0 ∙ p .0 .tm-long })
-    (record { fs-long = l .1 .1 .1 .0 ∙ p .1 .fs-long; ts-long = l .1 .1 .1 .1 .0 ∙ p .1 .ts-long }) in
-    omega (arith, filled-few f, p .3)
-
-slice-aggregate-judge-on-4 : tie.Need-slice-aggregate-judge-on-4
-slice-aggregate-judge-on-4 c = let p = c .before .before .before .before .before .before .before .before .before .before .before .before .before .before .before .before .before .before .before .before .before .before .before .before .before .before .before .before .pre in
+judge-in-requires : tie.Need-judge-in-requires
+judge-in-requires c κs = let p = c .before .before .before .before .before .before .before .before .before .before .before .before .before .before .before .before .before .before .before .before .before .before .before .before .before .before .before .before .pre in
     let r = c .before .before .before .before .before .before .before .before .before .before .before .before .before .before .before .read-netlist in
     let l = r .kept .1 in
-    let f = good-filled (c .before .before .before .before .before .v .given .1) (r .ensures)
-    (record { ks-long = l .0 ∙ p .0 .ks-long; bs-long = l .1 .0 ∙ p .0 .bs-long; tm-long = l .1 .1 .0 ∙ p .0 .tm-long })
-    (record { fs-long = l .1 .1 .1 .0 ∙ p .1 .fs-long; ts-long = l .1 .1 .1 .1 .0 ∙ p .1 .ts-long }) in
-    sym (length-take-le _ _ (omega (arith, filled-few f, p .3)))
-
-judge-on-requires : tie.Need-judge-on-requires
-judge-on-requires c κs = let p = c .before .before .before .before .before .before .before .before .before .before .before .before .before .before .before .before .before .before .before .before .before .before .before .before .before .before .before .before .pre in
-    let r = c .before .before .before .before .before .before .before .before .before .before .before .before .before .before .before .read-netlist in
-    let l = r .kept .1 in
-    let f = good-filled (c .before .before .before .before .before .v .given .1) (r .ensures)
-    (record { ks-long = l .0 ∙ p .0 .ks-long; bs-long = l .1 .0 ∙ p .0 .bs-long; tm-long = l .1 .1 .0 ∙ p .0 .tm-long })
-    (record { fs-long = l .1 .1 .1 .0 ∙ p .1 .fs-long; ts-long = l .1 .1 .1 .1 .0 ∙ p .1 .ts-long }) in
-    let k = length-take-le _ _ (f .kinds-all) in
-    (length-take-le _ (now (c .before .before .before .before .before .before .before .before .before .before .before .before .before .before .before .before .before .before .before .before .before .before .before .before .before .before .before .before .args .served)) (omega (arith, filled-few f, p .2)) ∙ sym k, length-take-le _ _ (f .bases-all) ∙ sym k, length-take-le _ (now (c .before .before .before .before .before .before .before .before .before .before .before .before .before .before .before .before .before .before .before .before .before .before .before .before .before .before .before .before .args .incs)) (omega (arith, filled-few f, p .3)) ∙ sym k, f .taken .accepted .judged .few)
+    let f = kept-filled (c .before .before .before .before .before .v .given .1) (r .ensures) (p .0) (p .1) (l .0) (l .1 .0) (l .1 .1 .0) (l .1 .1 .1 .0) (l .1 .1 .1 .1 .0) in
+    let few = filled-few f in
+    record { few = few; kinds-all = f .kinds-all; bases-all = f .bases-all; marks-all = omega (arith, p .2); incs-all = omega (arith, p .3) }
 
 same-length-6 : tie.Need-same-length-6
 same-length-6 c = search needs
@@ -143,10 +66,7 @@ returns-2 : tie.Need-returns-2
 returns-2 c = let p = c .before .before .before .before .before .before .before .before .before .before .before .before .before .before .before .before .before .before .before .before .before .before .before .before .before .before .before .before .before .before .before .before .before .pre in
     let r = c .before .before .before .before .before .before .before .before .before .before .before .before .before .before .before .before .before .before .before .before .read-netlist in
     let l = r .kept .1 in
-    let f = good-filled (c .before .before .before .before .before .before .before .before .before .before .v .given .1) (r .ensures)
-    (record { ks-long = l .0 ∙ p .0 .ks-long; bs-long = l .1 .0 ∙ p .0 .bs-long; tm-long = l .1 .1 .0 ∙ p .0 .tm-long })
-    (record { fs-long = l .1 .1 .1 .0 ∙ p .1 .fs-long; ts-long = l .1 .1 .1 .1 .0 ∙ p .1 .ts-long }) in
-    both-heard (r .ensures) _ _ _ (c .before .before .before .before .before .before .before .before .before .before .v .given .1) (c .before .before .before .before .judge-on .ensures) (c .before .before .before .before .judge-on .kept .1 .1 .1 .0 ∙ length-take-le _ _ (omega (arith, filled-few f, p .2))) (c .before .before .before .before .judge-on .kept .1 .1 .1 .1 .0 ∙ length-take-le _ _ (omega (arith, filled-few f, p .3)))
+    both-heard (r .ensures) _ (c .before .before .before .before .before .before .before .before .before .before .v .given .1) (kept-filled (c .before .before .before .before .before .before .before .before .before .before .v .given .1) (r .ensures) (p .0) (p .1) (l .0) (l .1 .0) (l .1 .1 .0) (l .1 .1 .1 .0) (l .1 .1 .1 .1 .0) .kinds-all) (c .before .before .before .before .judge-in .ensures)
 
 pub judge-both-spec : {M : Type 1} → statement M
 judge-both-spec =
@@ -161,15 +81,7 @@ judge-both-spec =
     same-length-4
     same-length-5
     returns
-    slice-reshare-prefix-judge-on
-    slice-aggregate-judge-on
-    slice-reshare-prefix-judge-on-2
-    slice-aggregate-judge-on-2
-    slice-relend-prefix-judge-on
-    slice-aggregate-judge-on-3
-    slice-relend-prefix-judge-on-2
-    slice-aggregate-judge-on-4
-    judge-on-requires
+    judge-in-requires
     same-length-6
     same-length-7
     same-length-8

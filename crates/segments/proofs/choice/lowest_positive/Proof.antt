@@ -1,6 +1,6 @@
 use Prim.Native.Nat.{_-_}
 use Rattle.circuit.specs.Rounds.{positive}
-use Rattle.timing.specs.Seek.{Seeking, seeking-found, seeking-next, seeking-none, seeking-starts}
+use Rattle.circuit.specs.SeekLaws.{Seeking, seeking-found, seeking-next, seeking-none, seeking-starts}
 use borrow.Author.Needs.{needs}
 use lib.ListN.{length}
 use mathlib.Core.Path.{_∙_, sym}

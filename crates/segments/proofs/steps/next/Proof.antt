@@ -1,7 +1,7 @@
 use Prim.Native.Nat.{_-_}
 use Rattle.circuit.specs.Netlist.{from, to}
 use Rattle.circuit.specs.Rounds.{after, leads}
-use Rattle.timing.specs.Seek.{Seeking, seeking-else, seeking-first, seeking-next, seeking-starts}
+use Rattle.circuit.specs.SeekLaws.{Seeking, seeking-else, seeking-first, seeking-next, seeking-starts}
 use borrow.Author.Needs.{needs}
 use lib.ListN.{length}
 use mathlib.Core.Path.{_∙_, sym}

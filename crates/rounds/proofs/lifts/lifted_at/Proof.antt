@@ -2,8 +2,8 @@ use Rattle.whole.specs.Range.{back, via}
 use borrow.Author.Needs.{needs}
 use mathlib.Core.Path.{_∙_}
 use native.Mathlib.Omega.{arith}
-use Rattle.rounds.proofs.marks.lifted_at.Statement.{statement}
-use Rattle.rounds.proofs.marks.lifted_at.Tie as tie
+use Rattle.rounds.proofs.lifts.lifted_at.Statement.{statement}
+use Rattle.rounds.proofs.lifts.lifted_at.Tie as tie
 
 mul-add : tie.Need-mul-add
 mul-add c = search needs

@@ -1,6 +1,6 @@
 use borrow.Author.Tests.{eq-eqb, ne-eqb}
-use Rattle.rounds.proofs.marks.due.Statement.{statement}
-use Rattle.rounds.proofs.marks.due.Tie as tie
+use Rattle.rounds.proofs.lifts.due.Statement.{statement}
+use Rattle.rounds.proofs.lifts.due.Tie as tie
 
 returns : tie.Need-returns
 returns c = simp (eq-eqb _ _ (c .if1 .taken))

@@ -8,8 +8,8 @@ use lib.IntN.{pos}
 use lib.ListN.{length}
 use mathlib.Core.Path.{_∙_, sym}
 use native.Mathlib.Omega.{arith}
-use Rattle.rounds.proofs.marks.lift.Statement.{statement}
-use Rattle.rounds.proofs.marks.lift.Tie as tie
+use Rattle.rounds.proofs.lifts.lift.Statement.{statement}
+use Rattle.rounds.proofs.lifts.lift.Tie as tie
 
 abbrev Inv-loop : tie.InvT-loop
 Inv-loop d₀ base served t i₀ d i = (i ≤ length base) × Filling (lifted served t base) d₀ d i

@@ -1,4 +1,4 @@
-// The marks of the served, and delays with a share for each of them.
+// Delays with a share for each of the served.
 ghost use mathlib.Core.Path.{_≡_};
 ghost use mathlib.Core.Bool.{cond};
 ghost use Prim.Native.Nat.{_<_, _^_};
@@ -6,44 +6,15 @@ ghost use lib.Dec.{eqb};
 ghost use lib.IntN.{pos, _+ℤ_};
 ghost use lib.ListN.{length};
 ghost use Rattle.whole.specs.Range.{Bounded};
-ghost use Rattle.circuit.specs.Lists.{at, count};
-ghost use Rattle.circuit.specs.Netlist.{mark, servedOf, marked};
+ghost use Rattle.circuit.specs.Lists.{at};
+ghost use Rattle.circuit.specs.Netlist.{marked};
 ghost use Rattle.circuit.specs.Share.{lifted};
-
-fn mark_of(kind: u8) -> u8
-    ensures { λ r. ⌜ r ≡ mark kind ⌝ }
-{
-    if kind == 0 { 0 } else { 1 }
-}
-
-pub fn fill_served(served: &mut [u8], kinds: &[u8])
-    requires { ⌜ length (now served) ≡ length (now kinds) ⌝ }
-    ensures { λ _. ⌜ now (served .exit) ≡ servedOf (now (kinds .entry)) ⌝ }
-{
-    let mut i = 0;
-    while i < kinds.len() {
-        served[i] = mark_of(kinds[i]);
-        i += 1;
-    }
-}
 
 // t for one who is served, nothing for another.
 fn due(m: u8, t: u32) -> u32
     ensures { λ r. ⌜ r ≡ cond (eqb m 1) t 0 ⌝ }
 {
     if m == 1 { t } else { 0 }
-}
-
-pub fn count_served(served: &[u8]) -> usize
-    ensures { λ r. ⌜ r ≡ count (marked (now (served .entry))) (length (now (served .entry))) ⌝ }
-{
-    let mut n = 0;
-    let mut i = 0;
-    while i < served.len() {
-        n += due(served[i], 1) as usize;
-        i += 1;
-    }
-    n
 }
 
 fn lifted_at(base: &[i64], served: &[u8], t: u32, x: usize) -> i64
