@@ -28,7 +28,7 @@ use Rattle.hozbantir.specs.Calls.{takenOf, Budgets, bothOf, saidOf, boun
 use Rattle.hozbantir.specs.Taken.{Taken, said-taken}
 use Rattle.hozbantir.specs.Reading.{both-agree, agree-both}
 use Rattle.hozbantir.specs.BudgetLaws.{budget-wrote, wrote-mode, wrote-told, wrote-said, budget-decides, outcome-late}
-use Rattle.hozbantir.specs.Demands.{netIn, circuitIn, baseIn, servedIn, summaryIn, incrementIn, Even, Told-right, Bound-of, Reads, Reads-back, Late-exactly}
+use Rattle.hozbantir.specs.Demands.{netlistIn, circuitIn, baseIn, servedIn, summaryIn, incrementIn, Even, Told-right, Bound-of, Reads, Reads-back, Late-exactly}
 
 -- ---- demand 3
 
@@ -67,7 +67,7 @@ demand-2 m s p =
 
 -- "Read back gives inputs 0 and the rest base plus increment."
 bound-is : (s q : List ℕ) (x : ℕ) → Bound-of s q x (boundOn (getD (servedOf (boardOf s .kinds)) x 0) (up (at (boardOf s .bases) x)) (incrementIn s q x))
-bound-is s q x = record { input = λ e. rw (serves-no (netIn s) x e); other = λ h. rw (serves-yes (netIn s) x h) }
+bound-is s q x = record { input = λ e. rw (serves-no (netlistIn s) x e); other = λ h. rw (serves-yes (netlistIn s) x h) }
 
 module _ (s q : List ℕ) where
   abbrev sv : List ℕ
@@ -76,10 +76,10 @@ module _ (s q : List ℕ) where
   abbrev bounds : List ℕ
   bounds = boundsRead sv (boardOf s .bases) (saidOf s q)
 
-  count : length bounds ≡ parts (netIn s)
+  count : length bounds ≡ parts (netlistIn s)
   count = length-read sv (boardOf s .bases) (saidOf s q) ∙ length-served (boardOf s .kinds)
 
-  bounds-in : (before : List ℕ) (x : ℕ) → x < parts (netIn s) → Bound-of s q x (getD (bounds ++ drop (length bounds) before) x 0)
+  bounds-in : (before : List ℕ) (x : ℕ) → x < parts (netlistIn s) → Bound-of s q x (getD (bounds ++ drop (length bounds) before) x 0)
   bounds-in before x h =
       let read = List·getD-append bounds (drop (length bounds) before) 0 x (rw count h) in
       let at-x = read-at sv (boardOf s .bases) (saidOf s q) x (rw length-served h) in
@@ -90,42 +90,41 @@ module _ (s q : List ℕ) where
   unfolding readBackOf boundsOn
   taken-reads e = record { reads = reads′ }
     where
-      reads′ : {before after : List ℕ} {r : Answer} → ReadsBack s q before r after → parts (netIn s) ≤ length before → Reads s q r after
+      reads′ : {before after : List ℕ} {r : Answer} → ReadsBack s q before r after → parts (netlistIn s) ≤ length before → Reads s q r after
       reads′ {before} {after} {r} p enough =
-          if-cases (λ l. Leaves l before r after → Reads s q r after) (lt (length before) (parts (netIn s))) (refusal (Room (parts (netIn s)))) (left (Done (parts (netIn s))) bounds)
+          if-cases (λ l. Leaves l before r after → Reads s q r after) (lt (length before) (parts (netlistIn s))) (refusal (Room (parts (netlistIn s)))) (left (Done (parts (netlistIn s))) bounds)
           (λ h. absurd (omega arith))
           (λ h f. record { accepted = answer-one (f .number) (f .place); bounds = rw (f .writes) (bounds-in before) })
           (done-unless (bothOf s q) _ (ap numberOf e) p)
 
   module _ {before after : List ℕ} {k : ℕ} (p : ReadsBack s q before (Done k) after) where
-    pub reads-agree : (bothOf s q ≡ Done (parts (netIn s))) × (k ≡ parts (netIn s)) × (parts (netIn s) ≤ length before) × (after ≡ bounds ++ drop (length bounds) before)
+    pub reads-agree : (bothOf s q ≡ Done (parts (netlistIn s))) × (k ≡ parts (netlistIn s)) × (parts (netlistIn s) ≤ length before) × (after ≡ bounds ++ drop (length bounds) before)
     unfolding readBackOf boundsOn
     reads-agree =
         let (done, f) = done-taken (bothOf s q) _ p in
         let agree = both-agree s q (done .1) .3 in
-        let (n, h, w) = done-written (length before) (parts (netIn s)) bounds f in
+        let (n, h, w) = done-written (length before) (parts (netlistIn s)) bounds f in
         (done .1 ∙ ap Done (agree .count), n, h, w)
 
     same-length : length after ≡ length before
-    same-length = let (_, _, h, e) = reads-agree in rw (e, length-append bounds (drop (length bounds) before), count) (omega (arith, length-drop (parts (netIn s)) before))
+    same-length = let (_, _, h, e) = reads-agree in rw (e, length-append bounds (drop (length bounds) before), count) (omega (arith, length-drop (parts (netlistIn s)) before))
 
-    -- "a second call over its own output changes nothing"
+    -- a second call over its own output changes nothing: "however often it is read" (demand 2)
     pub reads-again : ReadsBack s q after (Done k) after
     reads-again =
         let behind : drop (length (readBackOf s q (length before) .written)) after ≡ drop (length (readBackOf s q (length before) .written)) before
         = rw (p .writes) (drop-at (readBackOf s q (length before) .written) _ (length (readBackOf s q (length before) .written)) refl) in
         rw same-length (record { number = p .number; place = p .place; writes = p .writes ∙ rw behind refl })
 
-    -- "What it gives depends on netlist and result alone, not on what the buffer held"
+    -- what it gives depends on netlist and result alone, not on what the buffer held
     pub reads-given : take k after ≡ bounds
-    reads-given = let (_, n, _, e) = reads-agree in rw (e, n) (take-at bounds (drop (length bounds) before) (parts (netIn s)) count)
+    reads-given = let (_, n, _, e) = reads-agree in rw (e, n) (take-at bounds (drop (length bounds) before) (parts (netlistIn s)) count)
 
--- "The result that budget wrote is accepted by read back whenever the buffer has room, and read back gives 0 for inputs and base plus increment for
--- the rest."
+-- "A written result reads back to base plus increment" (demand 2): what budget wrote is accepted by read back whenever the buffer has room
 pub demand-2-back : (m : ℕ) (s : List ℕ) {before after : List ℕ} {k : ℕ} → Budgets m s before (Done k) after → Reads-back s (take k after)
 demand-2-back m s {after = after} {k} p = let w = budget-wrote m s p in taken-reads s (take k after) (agree-both s (take k after) (w .judged) (wrote-told w))
 
--- "No two accepted results for one netlist differ in bytes only."
+-- "no two accepted results for one netlist differ in bytes only" (demand 2)
 pub demand-2-bytes : (s : List ℕ) {q q′ before before′ after after′ : List ℕ} {k k′ : ℕ} → OfBytes q → OfBytes q′ → ReadsBack s q before (Done k) after → ReadsBack s q′ before′ (Done k′) after′
     → summaryIn s q ≡ summaryIn s q′ → saidOf s q ≡ saidOf s q′ → q ≡ q′
 demand-2-bytes s {q} {q′} b b′ p p′ e i =
@@ -135,22 +134,22 @@ demand-2-bytes s {q} {q′} b b′ p p′ e i =
 -- ---- late
 
 module _ {m n : ℕ} (s : List ℕ) {before after : List ℕ} {r : Answer} (h : m ≤ 1) (e : takenOf s ≡ Done n) (p : Budgets m s before r after) where
-  abbrev t : Taken (netIn s) (boardOf s .bases)
+  abbrev t : Taken (netlistIn s) (boardOf s .bases)
   t = said-taken s e
 
   abbrev outcome : Outcome
-  outcome = budgetOf m (netIn s) (boardOf s .bases)
+  outcome = budgetOf m (netlistIn s) (boardOf s .bases)
 
   late-only : {x : ℕ} → r ≡ Late x → (w : Path (circuitIn s .net)) × C.Late (circuitIn s) (baseIn s) w
   late-only f =
       let q = rw f at (budget-decides s h e p) in
-      let g = late-says (t .accepted) (t .based) m (outcome-late m (netIn s) (boardOf s .bases) (length before) outcome q) .path in
+      let g = late-says (t .accepted) (t .based) m (outcome-late m (netlistIn s) (boardOf s .bases) (length before) outcome q) .path in
       (g .0, g .2)
 
   late-holds : (w : Path (circuitIn s .net)) → C.Late (circuitIn s) (baseIn s) w → (x : ℕ) × (r ≡ Late x)
   late-holds w late =
       let q = rw (late-path (t .accepted) (t .based) m w late) at (budget-decides s h e p) in
-      (lowestLate (netIn s) (boardOf s .bases), answer-one (q .number) (q .place))
+      (lowestLate (netlistIn s) (boardOf s .bases), answer-one (q .number) (q .place))
 
   pub late-exactly : Late-exactly s r
   late-exactly = record { only = late-only; holds = late-holds }

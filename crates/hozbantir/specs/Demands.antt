@@ -23,17 +23,17 @@ use Rattle.hozbantir.specs.Calls.{saidOf, ReadsBack}
 -- ---- what the files say
 
 -- the netlist, its circuit, its base delays, and who is served in it: the non-inputs
-abbrev pub netIn : List ℕ → Netlist
-netIn s = netOn (boardOf s)
+abbrev pub netlistIn : List ℕ → Netlist
+netlistIn s = netOn (boardOf s)
 
 abbrev pub circuitIn : List ℕ → Circuit
-circuitIn s = circuitOf (netIn s)
+circuitIn s = circuitOf (netlistIn s)
 
 abbrev pub baseIn : List ℕ → ℕ → ℤ
 baseIn s = at (boardOf s .bases)
 
 abbrev pub servedIn : List ℕ → ℕ → Bool
-servedIn s = serves (netIn s)
+servedIn s = serves (netlistIn s)
 
 -- how the result q is judged against it, with what its summary says; and the increment that it says of component x
 abbrev pub summaryIn : (netlist result : List ℕ) → Told
@@ -56,37 +56,38 @@ pub record Even (s q : List ℕ) : Type 0 where
 
 -- ---- demand 2
 
--- Of the bytes q that budget wrote in mode m: they say share, rounds and increments of the definition; "The summary's rounds are the definition's
--- and at most the non-inputs; its share is the largest t in mode 1 and 0 in mode 0".
+-- Of the bytes q that budget wrote in mode m: they say share, rounds and increments of the definition. "The number of rounds is counted and returned;
+-- it is at most the number of non-inputs." "The share is the largest whole t such that the circuit stays in time with t added to every non-input."
+-- (01, "Share and rounds"); "In plain mode the share field is 0." (01, "The netlist and result files")
 pub record Told-right (m : ℕ) (s q : List ℕ) : Type 0 where
   pub share : ℕ
   pub rounds : ℕ
   pub increments : List ℕ
-  pub budget : budgetOf m (netIn s) (boardOf s .bases) ≡ Budgeted share rounds increments
+  pub budget : budgetOf m (netlistIn s) (boardOf s .bases) ≡ Budgeted share rounds increments
   pub summary : summaryIn s q ≡ T.Result m share rounds
   pub said : saidOf s q ≡ increments
-  pub rounds-are : rounds ≡ roundsFrom (netIn s) (startIn m (netIn s) (boardOf s .bases))
-  pub rounds-few : rounds ≤ limit (netIn s)
+  pub rounds-are : rounds ≡ roundsFrom (netlistIn s) (startIn m (netlistIn s) (boardOf s .bases))
+  pub rounds-few : rounds ≤ limit (netlistIn s)
   pub plain : m ≡ 0 → share ≡ 0
   pub even : m ≡ 1 → Share (circuitIn s) (servedIn s) (baseIn s) share
 
--- What read back gives for component x: "0 for inputs and base plus increment for the rest".
+-- "Read back gives inputs 0 and the rest base plus increment." (01, "Refusal numbers"): what it gives for component x
 pub record Bound-of (s q : List ℕ) (x bound : ℕ) : Type 0 where
-  pub input : kind (netIn s) x ≡ 0 → bound ≡ 0
-  pub other : (kind (netIn s) x ≡ 0 → ⊥) → bound ≡ up (baseIn s x) + incrementIn s q x
+  pub input : kind (netlistIn s) x ≡ 0 → bound ≡ 0
+  pub other : (kind (netlistIn s) x ≡ 0 → ⊥) → bound ≡ up (baseIn s x) + incrementIn s q x
 
--- "A written result reads back to base plus increment however often it is read": every read back of q, in a buffer with room for one number for
+-- Demand 2: "A written result reads back to base plus increment however often it is read". Every read back of q, in a buffer with room for one number for
 -- each component, succeeds and gives these, whatever the buffer held.
 pub record Reads (s q : List ℕ) (r : Answer) (after : List ℕ) : Type 0 where
-  pub accepted : r ≡ A.Done (parts (netIn s))
-  pub bounds : (x : ℕ) → x < parts (netIn s) → Bound-of s q x (getD after x 0)
+  pub accepted : r ≡ A.Done (parts (netlistIn s))
+  pub bounds : (x : ℕ) → x < parts (netlistIn s) → Bound-of s q x (getD after x 0)
 
 pub record Reads-back (s q : List ℕ) : Type 0 where
-  pub reads : {before after : List ℕ} {r : Answer} → ReadsBack s q before r after → parts (netIn s) ≤ length before → Reads s q r after
+  pub reads : {before after : List ℕ} {r : Answer} → ReadsBack s q before r after → parts (netlistIn s) ≤ length before → Reads s q r after
 
 -- ---- late
 
--- LATE "exactly if some path is late at base delays"
+-- LATE: "an output has negative slack at base delays" (01, "Refusal numbers"). Said of paths: exactly if some path is late at base delays.
 pub record Late-exactly (s : List ℕ) (r : Answer) : Type 0 where
   pub only : {x : ℕ} → r ≡ A.Late x → (p : Path (circuitIn s .net)) × Late (circuitIn s) (baseIn s) p
   pub holds : (p : Path (circuitIn s .net)) → Late (circuitIn s) (baseIn s) p → (x : ℕ) × (r ≡ A.Late x)
