@@ -89,6 +89,10 @@
  *                  buffer keep their values.
  *   number 1 to 11 refusal. The place says where or how much. The buffer keeps all its bytes.
  *
+ * hozbantir_refusal_name gives a number's name as the table below has it. Slacks and bounds come as
+ * four big-endian bytes each: hozbantir_signed_at reads the slack of a component from them, and
+ * hozbantir_number_at its bound.
+ *
  *   no.  HOZBANTIR_REFUSED_   given exactly when                             place
  *    1   MODE      mode is above 1                                           0
  *    2   BROKEN    fewer than 3 bytes are left for a record's head, or its   offset of the record
@@ -165,6 +169,8 @@
  *   uint64_t answer = hozbantir_budget(HOZBANTIR_EVEN, netlist, length, result, sizeof result);
  *   if (HOZBANTIR_NUMBER(answer) == HOZBANTIR_SUCCESS)
  *       save(result, HOZBANTIR_PLACE(answer));
+ *   else
+ *       complain(hozbantir_refusal_name(HOZBANTIR_NUMBER(answer)), HOZBANTIR_PLACE(answer));
  */
 
 #ifndef HOZBANTIR_H
@@ -176,6 +182,9 @@
 #ifdef __cplusplus
 extern "C" {
 #endif
+
+/* The number of the landing (docs/landings) is the minor part. */
+#define HOZBANTIR_VERSION "0.1"
 
 /* The two parts of an answer. */
 #define HOZBANTIR_NUMBER(answer) ((uint32_t)((uint64_t)(answer) >> 32))
@@ -262,6 +271,42 @@ uint64_t hozbantir_budget(uint32_t mode,
 uint64_t hozbantir_read_back(const uint8_t *netlist, size_t netlist_length,
                              const uint8_t *result, size_t result_length,
                              uint8_t *bounds, size_t bounds_length);
+
+/* The number at a place, from 0, of a buffer of numbers. Nothing checks that it is that long. */
+static inline uint32_t hozbantir_number_at(const uint8_t *numbers, size_t at)
+{
+    const uint8_t *bytes = numbers + 4 * at;
+    return (uint32_t)bytes[0] << 24 | (uint32_t)bytes[1] << 16 | (uint32_t)bytes[2] << 8
+           | (uint32_t)bytes[3];
+}
+
+/* The same in two's complement. Only numbers that an int32_t can hold are made into one. */
+static inline int32_t hozbantir_signed_at(const uint8_t *numbers, size_t at)
+{
+    uint32_t number = hozbantir_number_at(numbers, at);
+    return number < UINT32_C(0x80000000) ? (int32_t)number
+                                         : -1 - (int32_t)(UINT32_C(0xffffffff) - number);
+}
+
+/* The name of an answer's number: "MODE" to "RESULT", "success" for 0, "unknown" for any other. */
+static inline const char *hozbantir_refusal_name(uint32_t number)
+{
+    switch (number) {
+    case HOZBANTIR_SUCCESS: return "success";
+    case HOZBANTIR_REFUSED_MODE: return "MODE";
+    case HOZBANTIR_REFUSED_BROKEN: return "BROKEN";
+    case HOZBANTIR_REFUSED_TAG: return "TAG";
+    case HOZBANTIR_REFUSED_SIZE: return "SIZE";
+    case HOZBANTIR_REFUSED_FIELD: return "FIELD";
+    case HOZBANTIR_REFUSED_WIRING: return "WIRING";
+    case HOZBANTIR_REFUSED_ENDS: return "ENDS";
+    case HOZBANTIR_REFUSED_LATE: return "LATE";
+    case HOZBANTIR_REFUSED_STALLED: return "STALLED";
+    case HOZBANTIR_REFUSED_ROOM: return "ROOM";
+    case HOZBANTIR_REFUSED_RESULT: return "RESULT";
+    default: return "unknown";
+    }
+}
 
 #ifdef __cplusplus
 }

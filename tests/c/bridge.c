@@ -52,12 +52,6 @@ static _Noreturn void stop(const char *why)
     exit(EXIT_FAILURE);
 }
 
-static uint32_t number_at(const uint8_t *bytes)
-{
-    return (uint32_t)bytes[0] << 24 | (uint32_t)bytes[1] << 16 | (uint32_t)bytes[2] << 8
-           | (uint32_t)bytes[3];
-}
-
 static void put_number(uint8_t *bytes, uint64_t number)
 {
     for (int at = 7; at >= 0; at--) {
@@ -68,7 +62,7 @@ static void put_number(uint8_t *bytes, uint64_t number)
 
 static struct lent read_slice(const uint8_t *length_field)
 {
-    size_t length = number_at(length_field);
+    size_t length = hozbantir_number_at(length_field, 0);
     uint8_t *contents = memory_for(length);
     if (fread(contents, 1, length, stdin) != length) {
         stop("the input ends within a request");
@@ -90,8 +84,8 @@ static bool read_request(struct request *request)
     request->call = head[0];
     request->task = head[1];
     request->nulls = head[2];
-    request->mode = number_at(head + 3);
-    request->repeats = number_at(head + 7);
+    request->mode = hozbantir_number_at(head + 3, 0);
+    request->repeats = hozbantir_number_at(head + 7, 0);
     request->netlist = read_slice(head + 11);
     request->result = read_slice(head + 15);
     request->buffer = read_slice(head + 19);

@@ -34,24 +34,11 @@ static uint8_t slacks[HOZBANTIR_NUMBERS_LENGTH(COMPONENTS)];
 static uint8_t result[HOZBANTIR_RESULT_LENGTH(NON_INPUTS)];
 static uint8_t bounds[HOZBANTIR_NUMBERS_LENGTH(COMPONENTS)];
 
-/* The library lends and takes bytes, so the caller puts numbers together. */
-static uint32_t number_at(const uint8_t *bytes)
-{
-    return (uint32_t)bytes[0] << 24 | (uint32_t)bytes[1] << 16 | (uint32_t)bytes[2] << 8
-           | (uint32_t)bytes[3];
-}
-
-/* Two's complement, without leaving it to the compiler. */
-static int64_t signed_at(const uint8_t *bytes)
-{
-    uint32_t number = number_at(bytes);
-    return number < UINT32_C(0x80000000) ? (int64_t)number : (int64_t)number - INT64_C(0x100000000);
-}
-
 static void print_answer(const char *call, uint64_t answer)
 {
-    printf("%s: number %" PRIu32 ", place %" PRIu32 "\n", call, HOZBANTIR_NUMBER(answer),
-           HOZBANTIR_PLACE(answer));
+    uint32_t number = HOZBANTIR_NUMBER(answer);
+    printf("%s: number %" PRIu32 " (%s), place %" PRIu32 "\n", call, number,
+           hozbantir_refusal_name(number), HOZBANTIR_PLACE(answer));
 }
 
 static void analyse(void)
@@ -59,7 +46,7 @@ static void analyse(void)
     uint64_t answer = hozbantir_analyse(netlist, sizeof netlist, slacks, sizeof slacks);
     print_answer("analyse", answer);
     for (uint32_t at = 0; at < HOZBANTIR_PLACE(answer); at++) {
-        printf("  slack of %" PRIu32 " is %" PRId64 "\n", at, signed_at(slacks + 4 * at));
+        printf("  slack of %" PRIu32 " is %" PRId32 "\n", at, hozbantir_signed_at(slacks, at));
     }
 }
 
@@ -69,7 +56,7 @@ static void read_back(void)
                                           sizeof bounds);
     print_answer("read back", answer);
     for (uint32_t at = 0; at < HOZBANTIR_PLACE(answer); at++) {
-        printf("  bound of %" PRIu32 " is %" PRIu32 "\n", at, number_at(bounds + 4 * at));
+        printf("  bound of %" PRIu32 " is %" PRIu32 "\n", at, hozbantir_number_at(bounds, at));
     }
 }
 

@@ -1,7 +1,9 @@
 //! Commands that the environment names, as it is not known here how x86-64 programs are started.
 
 use std::env;
-use std::process::{Command, Stdio};
+use std::io::Write;
+use std::process::{Command, Output, Stdio};
+use std::thread;
 
 /// The command of a variable, with its input and output to be written and read.
 ///
@@ -16,4 +18,27 @@ pub fn command(variable: &str) -> Result<Command, String> {
     command.args(words);
     command.stdin(Stdio::piped()).stdout(Stdio::piped());
     Ok(command)
+}
+
+/// Runs the command of a variable once, with some further words and an input, to its end.
+pub fn run(variable: &str, words: &[&str], input: &[u8]) -> Result<Output, String> {
+    let mut command = command(variable)?;
+    command.args(words).stderr(Stdio::piped());
+    let mut child = command
+        .spawn()
+        .map_err(|error| format!("{variable}: {error}"))?;
+    let stdin = child.stdin.take();
+    let input = input.to_vec();
+    // From another thread, as it may print before it has read all.
+    let writer = thread::spawn(move || {
+        if let Some(mut stdin) = stdin {
+            // It may stop reading before the end, which is no failure by itself.
+            let _ = stdin.write_all(&input);
+        }
+    });
+    let output = child
+        .wait_with_output()
+        .map_err(|error| error.to_string())?;
+    writer.join().map_err(|_| "the writer failed".to_string())?;
+    Ok(output)
 }

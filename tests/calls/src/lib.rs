@@ -8,7 +8,7 @@ mod bridge;
 mod command;
 mod request;
 
-pub use command::command;
+pub use command::{command, run};
 pub use request::Request;
 
 /// What a call did: its answer, and the buffer it was lent as it stands after the call.

@@ -1,27 +1,9 @@
 //! Runs the program once, with an input, and takes what it prints.
 
-use std::io::Write;
-use std::thread;
-
 const COMMAND: &str = "HOZBANTIR_BUDGET";
 
 pub fn printed(input: &[u8]) -> Result<String, String> {
-    let mut child = calls::command(COMMAND)?
-        .spawn()
-        .map_err(|error| format!("{COMMAND}: {error}"))?;
-    let stdin = child.stdin.take();
-    let input = input.to_vec();
-    // From another thread, as the program may print before it has read all.
-    let writer = thread::spawn(move || {
-        if let Some(mut stdin) = stdin {
-            // The program may stop reading at its limit, which is no failure.
-            let _ = stdin.write_all(&input);
-        }
-    });
-    let output = child
-        .wait_with_output()
-        .map_err(|error| error.to_string())?;
-    writer.join().map_err(|_| "the writer failed".to_string())?;
+    let output = calls::run(COMMAND, &[], input)?;
     String::from_utf8(output.stdout).map_err(|error| error.to_string())
 }
 
