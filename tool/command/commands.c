@@ -18,8 +18,8 @@ static enum status check(struct job *job)
     if (make_result(job, HOZBANTIR_PLAIN) != DONE) {
         return REFUSED;
     }
-    put(&job->out, "%s: %zu component%s, %zu connection%s; ", job->report.file, circuit->count, circuit->count == 1 ? "" : "s",
-        circuit->wire_count, circuit->wire_count == 1 ? "" : "s");
+    put(&job->out, "%s: %zu component%s, %zu connection%s; ", job->report.file, circuit->count,
+        circuit->count == 1 ? "" : "s", circuit->wire_count, circuit->wire_count == 1 ? "" : "s");
     say_least_slack(job);
     return write_file(&job->options, &job->out, true);
 }

@@ -79,8 +79,8 @@ enum status read_result(struct job *job)
 enum status read_bounds(struct job *job)
 {
     uint8_t bounds[HOZBANTIR_MOST_NUMBERS_LENGTH];
-    uint64_t answer = hozbantir_read_back(job->netlist.at, job->netlist.length, job->result.at, job->result.length, bounds,
-                                          sizeof bounds);
+    uint64_t answer = hozbantir_read_back(job->netlist.at, job->netlist.length, job->result.at, job->result.length,
+                                          bounds, sizeof bounds);
     enum status status = answered(job, job->options.files[job->options.file_count - 1], answer);
     for (uint32_t at = 0; status == DONE && at < HOZBANTIR_PLACE(answer); at++) {
         job->bounds[at] = hozbantir_number_at(bounds, at);

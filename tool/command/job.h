@@ -1,4 +1,7 @@
-/* A command at work: the files, the circuit, and what the library said of them. All calls of the library are made in job.c. */
+/*
+ * A command at work: the files, the circuit, and what the library said of them. All calls of the
+ * library are made in job.c.
+ */
 #ifndef JOB_H
 #define JOB_H
 

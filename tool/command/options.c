@@ -99,7 +99,8 @@ static const struct option *find_option(const char *argument, const char **value
 {
     for (size_t at = 0; at < KNOWN; at++) {
         size_t length = strlen(known[at].full);
-        bool full = strncmp(argument, known[at].full, length) == 0, brief = known[at].brief != NULL && strncmp(argument, known[at].brief, 2) == 0;
+        bool full = strncmp(argument, known[at].full, length) == 0;
+        bool brief = known[at].brief != NULL && strncmp(argument, known[at].brief, 2) == 0;
         const char *rest = full ? argument + length : argument + 2;
         *value = full && *rest == '=' ? rest + 1 : !full && *rest != '\0' ? rest : NULL;
         if ((full || brief) && (*rest == '\0' || (known[at].values != NULL && *value != NULL))) {

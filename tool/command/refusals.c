@@ -85,7 +85,8 @@ static void explain_field(struct report *report, const struct asked *asked, stru
         complain(report, found.at, "this early time is not taken");
         return;
     }
-    uint32_t number = found.at.where == AT_BYTE ? found.at.byte / 12 : (uint32_t)found.number, delay = field(contents + 1, 4);
+    uint32_t number = found.at.where == AT_BYTE ? found.at.byte / 12 : (uint32_t)found.number;
+    uint32_t delay = field(contents + 1, 4);
     int32_t time = hozbantir_signed_at(contents + 5, 0);
     struct place delay_at = asked->from_text ? asked->circuit->components[number].delay_at : found.at;
     struct place time_at = asked->from_text ? asked->circuit->components[number].time_at : found.at;
@@ -97,7 +98,8 @@ static void explain_field(struct report *report, const struct asked *asked, stru
         complain(report, delay_at, "%s `%s` has a base delay of %" PRIu32 " ps: 0 to 65535 are taken",
                  kind_word(contents[0]), name, delay);
     } else if (contents[0] == HOZBANTIR_KIND_INPUT && delay != 0) {
-        complain(report, delay_at, "input `%s` has a delay of %" PRIu32 " ps: this library lets inputs have none", name, delay);
+        complain(report, delay_at, "input `%s` has a delay of %" PRIu32 " ps: this library lets inputs have none", name,
+                 delay);
         hint(report, "add it to the arrival, or put a gate with that delay behind the input");
     } else if (contents[0] == HOZBANTIR_KIND_INNER && time != 0) {
         complain(report, time_at, "gate `%s` has a time, %" PRId32 " ps: only inputs and outputs have one", name, time);
@@ -123,8 +125,9 @@ static void explain_wiring(struct report *report, const struct asked *asked, str
     char room[16], other[16];
     const char *source = name_of(asked, from, room), *target = name_of(asked, to, other);
     if (from >= count || to >= count) {
-        complain(report, found.at, "a connection from component %" PRIu32 " to %" PRIu32 ", where the count is %" PRIu32,
-                 from, to, count);
+        complain(report, found.at,
+                 "a connection from component %" PRIu32 " to %" PRIu32 ", where the count is %" PRIu32, from, to,
+                 count);
     } else if (from == to) {
         complain(report, found.at, "`%s` feeds itself", source);
     } else if (from > to) {
@@ -136,7 +139,8 @@ static void explain_wiring(struct report *report, const struct asked *asked, str
     } else if (asked->from_text) {
         complain(report, found.at, "`%s` feeds `%s` twice", source, target);
     } else {
-        complain(report, found.at, "the connection from `%s` to `%s` is out of order: they rise by (to, from)", source, target);
+        complain(report, found.at, "the connection from `%s` to `%s` is out of order: they rise by (to, from)", source,
+                 target);
     }
 }
 
@@ -209,11 +213,13 @@ static void explain_bound(struct report *report, struct place place, const struc
         complain(report, place, "here the bound of `%s`, component %" PRIu32 ", is due, and that of %" PRIu32 " stands",
                  component->name, due, number);
     } else if (base != component->delay) {
-        complain(report, place, "`%s` has a base delay of %" PRIu32 " ps in the result and of %" PRIu32 " ps in the circuit",
+        complain(report, place,
+                 "`%s` has a base delay of %" PRIu32 " ps in the result and of %" PRIu32 " ps in the circuit",
                  component->name, base, component->delay);
         hint(report, "the result was made for another version of the circuit");
     } else {
-        complain(report, place, "`%s` has an increment of %" PRIu32 " ps: 0 to 200000000 are taken", component->name, increment);
+        complain(report, place, "`%s` has an increment of %" PRIu32 " ps: 0 to 200000000 are taken", component->name,
+                 increment);
     }
 }
 

@@ -81,8 +81,8 @@ static void bound_line(struct job *job, uint32_t number, int width)
     const struct component *component = &job->circuit.components[number];
     uint32_t increment = job->increments[number], bound = job->bounds[number];
     if (job->options.tsv) {
-        put(&job->out, "%" PRIu32 "\t%s\t%" PRIu32 "\t%" PRIu32 "\t%" PRIu32 "\n", number, component->name, component->delay,
-            increment, bound);
+        put(&job->out, "%" PRIu32 "\t%s\t%" PRIu32 "\t%" PRIu32 "\t%" PRIu32 "\n", number, component->name,
+            component->delay, increment, bound);
     } else {
         put(&job->out, "%-*s  %6" PRIu32 "  %10" PRIu32 "  %10" PRIu32 "\n", width, component->name, component->delay,
             increment, bound);

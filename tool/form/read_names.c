@@ -5,11 +5,17 @@
 #include <stdlib.h>
 #include <string.h>
 
+static bool can_stand_in_a_name(char byte)
+{
+    static const char signs[] = "_-./~!*#$@%&|^?[]<>";
+    return isalnum((unsigned char)byte) || memchr(signs, byte, sizeof signs - 1) != NULL;
+}
+
 /* The first byte of a word that no name may have; its length if there is none. */
 static size_t first_stray(struct word word)
 {
     size_t at = 0;
-    while (at < word.length && (isalnum((unsigned char)word.at[at]) || memchr("_-./~!*#$@%&|^?[]<>", word.at[at], 19) != NULL)) {
+    while (at < word.length && can_stand_in_a_name(word.at[at])) {
         at++;
     }
     return at;
@@ -45,9 +51,11 @@ bool check_name(struct reader *reader, struct word word)
     if (stray < word.length) {
         complain_of_stray(reader, part_of(word, stray, 1));
     } else if (word.length > MOST_NAME) {
-        complain(reader->report, word.place, "a name has at most %d characters, and this one %zu", MOST_NAME, word.length);
+        complain(reader->report, word.place, "a name has at most %d characters, and this one %zu", MOST_NAME,
+                 word.length);
     } else if (is_reserved(word)) {
-        complain(reader->report, word.place, "`%.*s` is a word of the form and cannot be a name", quoted(word), word.at);
+        complain(reader->report, word.place, "`%.*s` is a word of the form and cannot be a name", quoted(word),
+                 word.at);
     } else if (!has_letter(word) || word.at[0] == '-') {
         complain(reader->report, word.place, "`%.*s` is no name: a name has a letter in it and does not start with -",
                  quoted(word), word.at);
@@ -116,7 +124,8 @@ static void complain_of_unknown(struct reader *reader, struct place place, const
         at++;
     }
     if (at < circuit->count) {
-        hint(reader->report, "line %u has `%s`", (unsigned)circuit->components[at].at.line, circuit->components[at].name);
+        const struct component *like = &circuit->components[at];
+        hint(reader->report, "line %u has `%s`", (unsigned)like->at.line, like->name);
     }
 }
 

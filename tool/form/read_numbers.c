@@ -129,13 +129,14 @@ static bool value_of(struct word word, int64_t *value)
     return word.length > first;
 }
 
-bool read_number(struct reader *reader, struct word word, const char *field, int64_t least, int64_t most, int64_t *number)
+bool read_number(struct reader *reader, struct word word, const char *field, int64_t least, int64_t most,
+                 int64_t *number)
 {
     if (word.length == 0 || is_reserved(word)) {
         complain(reader->report, word.place, "a number has to follow `%s`", field);
     } else if (!value_of(word, number)) {
         complain_of(reader, word);
-    } else if (*number < 0 && least == 0) {
+    } else if (sign_length(word) > 0 && least == 0) {
         complain(reader->report, word.place, "the number behind `%s` cannot be negative", field);
     } else if (*number < least || *number > most) {
         complain(reader->report, word.place, "the number is too great to be written behind `%s`", field);

@@ -108,7 +108,18 @@ static void complain_of_stray(struct reader *reader)
     }
 }
 
-/* An attribute and its number. The names behind `from` are read as words that are no attributes. */
+/* Whether a name follows `from`. The names themselves are read later, as words that are no attributes. */
+static bool is_followed(const struct reader *reader)
+{
+    struct reader ahead = *reader;
+    if (next_word(&ahead) && find_attribute(ahead.word) == NULL) {
+        return true;
+    }
+    complain(reader->report, ahead.word.place, "a name has to follow `from`");
+    return false;
+}
+
+/* An attribute and its number, or `from`. */
 static bool read_attribute(struct reader *reader, const struct attribute_word *found, unsigned seen)
 {
     struct word word = reader->word;
@@ -122,7 +133,7 @@ static bool read_attribute(struct reader *reader, const struct attribute_word *f
         return false;
     }
     if (found->attribute == FROM) {
-        return true;
+        return is_followed(reader);
     }
     next_word(reader);
     if (!read_number(reader, reader->word, found->word, found->least, found->most, &number)) {

@@ -70,7 +70,8 @@ bool is_word(struct word word, const char *text)
 
 bool is_reserved(struct word word)
 {
-    static const char *const words[] = {"input", "gate", "output", "at", "by", "delay", "early", "from", "linear", "pad"};
+    static const char *const words[] = {"input", "gate",  "output", "at",     "by",
+                                        "delay", "early", "from",   "linear", "pad"};
     for (size_t at = 0; at < sizeof words / sizeof *words; at++) {
         if (is_word(word, words[at])) {
             return true;

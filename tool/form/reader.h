@@ -40,8 +40,9 @@ struct word part_of(struct word word, size_t start, size_t length);
 /* For "%.*s": no more of a word than a message should quote. */
 int quoted(struct word word);
 
-/* A whole number from least to most, which is what its field can hold. False, and complained of, if the word is none. */
-bool read_number(struct reader *reader, struct word word, const char *field, int64_t least, int64_t most, int64_t *number);
+/* A whole number from least to most, which is what its field can hold. False, and complained of, if it is none. */
+bool read_number(struct reader *reader, struct word word, const char *field, int64_t least, int64_t most,
+                 int64_t *number);
 
 /* False, and complained of, if the word cannot be a name. */
 bool check_name(struct reader *reader, struct word word);

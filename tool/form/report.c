@@ -7,7 +7,8 @@
 /* So much of a long line is shown, around the place. */
 enum { LONGEST_SHOWN = 140, SHOWN_BEFORE = 60 };
 
-static const char *const plain = "\033[0m", *const bold = "\033[1m", *const red = "\033[1;31m", *const blue = "\033[1;36m";
+static const char *const plain = "\033[0m", *const bold = "\033[1m";
+static const char *const red = "\033[1;31m", *const blue = "\033[1;36m";
 
 static const char *paint(const struct report *report, const char *code)
 {

@@ -121,14 +121,15 @@ static void put_shape(double x, double y, double width, bool pointed, struct byt
     }
 }
 
-/* A dash and a number for the wires of a component from or to parts that are not shown, if there are some. */
+/* A dash and a number for the wires of a component that are not drawn, if there are some. */
 static void put_hidden(const struct page *page, const struct groups *wires, size_t component, double x, double y,
                        struct bytes *out)
 {
     size_t hidden = 0;
     for (size_t at = wires->start[component]; at < wires->start[component + 1]; at++) {
         const struct wire *wire = &page->circuit->wires[wires->at[at]];
-        hidden += !page->flow.shown[wire->from] || !page->flow.shown[wire->to];
+        bool shown = page->flow.shown[wire->from] && page->flow.shown[wire->to];
+        hidden += !shown || page->columns.cut[wires->at[at]];
     }
     if (hidden > 0) {
         put(out, "<path class='h' d='M%.1f %.1fh14'/>", x, y);

@@ -8,6 +8,9 @@
 
 static const uint32_t NO_NODE = UINT32_MAX;
 
+/* A wire over more columns is not drawn: along a path of a thousand, such lines would be all that is seen. */
+enum { FARTHEST = 80 };
+
 struct building {
     const struct circuit *circuit;
     const struct flow *flow;
@@ -69,14 +72,32 @@ static void find_depths(struct building *building)
     }
 }
 
+static void cut_long_wires(struct building *building)
+{
+    const struct flow *flow = building->flow;
+    for (size_t at = 0; at < building->circuit->wire_count; at++) {
+        const struct wire *wire = &building->circuit->wires[at];
+        bool shown = flow->shown[wire->from] && flow->shown[wire->to] && !flow->tight_wire[at];
+        bool cut = shown && box_of(building, wire->to)->column > box_of(building, wire->from)->column + FARTHEST;
+        building->columns->cut[at] = cut;
+        building->columns->cut_count += cut;
+    }
+}
+
+/* The column that a wire is drawn to; 0 if it is not drawn. */
+static uint32_t end_column(const struct building *building, uint32_t wire)
+{
+    uint32_t to = building->circuit->wires[wire].to;
+    return building->flow->shown[to] && !building->columns->cut[wire] ? box_of(building, to)->column : 0;
+}
+
 /* The furthest column that a driver feeds, and the furthest that it feeds by a tight wire. */
 static void find_reach(const struct building *building, uint32_t driver, uint32_t *reach, uint32_t *tight_reach)
 {
     const struct flow *flow = building->flow;
     *reach = *tight_reach = 0;
     for (size_t at = flow->leaving.start[driver]; at < flow->leaving.start[driver + 1]; at++) {
-        uint32_t wire = flow->leaving.at[at], to = building->circuit->wires[wire].to;
-        uint32_t column = flow->shown[to] ? box_of(building, to)->column : 0;
+        uint32_t wire = flow->leaving.at[at], column = end_column(building, wire);
         *reach = column > *reach ? column : *reach;
         *tight_reach = flow->tight_wire[wire] && column > *tight_reach ? column : *tight_reach;
     }
@@ -104,11 +125,11 @@ static void add_ends(struct building *building, uint32_t driver, uint32_t line)
     const struct flow *flow = building->flow;
     uint32_t start = box_of(building, driver)->column;
     for (size_t at = flow->leaving.start[driver]; at < flow->leaving.start[driver + 1]; at++) {
-        uint32_t wire = flow->leaving.at[at], to = building->circuit->wires[wire].to;
-        uint32_t column = flow->shown[to] ? box_of(building, to)->column : 0;
+        uint32_t wire = flow->leaving.at[at], column = end_column(building, wire);
         if (column > start) {
             uint32_t left = column == start + 1 ? building->node_of[driver] : line + (column - start - 2);
-            add_link(building->columns, (struct link){left, building->node_of[to], wire, 0, flow->tight_wire[wire]});
+            uint32_t right = building->node_of[building->circuit->wires[wire].to];
+            add_link(building->columns, (struct link){left, right, wire, 0, flow->tight_wire[wire]});
         }
     }
 }
@@ -151,10 +172,11 @@ static void find_ports(struct columns *columns)
 
 void find_columns(const struct circuit *circuit, const struct flow *flow, struct columns *columns)
 {
-    *columns = (struct columns){0};
+    *columns = (struct columns){.cut = cleared(circuit->wire_count, sizeof *columns->cut)};
     struct building building = {circuit, flow, columns, cleared(circuit->count, sizeof *building.node_of)};
     add_boxes(&building);
     find_depths(&building);
+    cut_long_wires(&building);
     add_wires(&building);
     free(building.node_of);
     group(columns);
@@ -167,6 +189,7 @@ void free_columns(struct columns *columns)
 {
     free(columns->nodes);
     free(columns->links);
+    free(columns->cut);
     free_groups(&columns->nodes_in);
     free_groups(&columns->links_from);
     free_groups(&columns->links_to);

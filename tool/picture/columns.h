@@ -26,7 +26,8 @@ struct link {
 struct columns {
     struct node *nodes;
     struct link *links;
-    size_t count, node_count, node_room, link_count, link_room;
+    size_t count, node_count, node_room, link_count, link_room, cut_count;
+    bool *cut;                          /* by wire: it is too long to be drawn */
     struct groups nodes_in;             /* by column, from top to bottom */
     struct groups links_from, links_to; /* by left and by right node */
 };

@@ -13,6 +13,12 @@ static bool part_only(const struct page *page)
     return page->flow.shown_count < page->circuit->count;
 }
 
+/* Some wires are dashes. */
+static bool has_dashes(const struct page *page)
+{
+    return part_only(page) || page->columns.cut_count > 0;
+}
+
 double height_of(const struct node *node)
 {
     return HEAD + (double)node->y / 10;
@@ -35,7 +41,7 @@ static void write_words(struct page *page)
     }
     put(&page->legend, "%sin ps; the pill is slack at base delays%s%s",
         page->budget ? "delay + increment = bound, " : "all numbers ",
-        page->late ? "; dark red is late" : "", part_only(page) ? "; dashed: so many wires to parts not shown" : "");
+        page->late ? "; dark red is late" : "", has_dashes(page) ? "; dashed: so many wires not drawn" : "");
 }
 
 static void measure_boxes(struct page *page)
@@ -63,7 +69,7 @@ static size_t links_behind(const struct columns *columns, size_t column)
 /* Columns stand further apart where more wires run between them. */
 static void measure_columns(struct page *page)
 {
-    double dash = part_only(page) ? 8 : 0, right = MARGIN;
+    double dash = has_dashes(page) ? 8 : 0, right = MARGIN;
     page->x = cleared(page->columns.count, sizeof *page->x);
     for (size_t column = 0; column < page->columns.count; column++) {
         size_t links = links_behind(&page->columns, column);

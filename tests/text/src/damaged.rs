@@ -22,7 +22,7 @@ pub fn netlist(case: &Case) -> Option<Outcome> {
     let check = |random: &mut Random| {
         let file = damaged(random, &records);
         // What starts like a text is taken for one.
-        if file.first().map_or(true, |&byte| is_for_text(byte)) {
+        if file.first().is_none_or(|&byte| is_for_text(byte)) {
             return Ok(());
         }
         let done = run(&["check", "-"], &file)?;

@@ -37,6 +37,17 @@ try draw-result draw circuit-a.hz a-plain.result
 "${tool[@]}" draw --mode even -o reader-port.svg reader-port.hz
 holds "the picture of the README" cmp reader-port.svg "$repository/docs/pictures/reader-port.svg"
 
+# Of a wire over a hundred columns only the two ends are drawn, and counted there.
+awk 'BEGIN {
+    print "input g0 at 0"
+    for (i = 1; i < 100; i++) print "gate g" i " delay 3 from g" i - 1
+    print "output out delay 1 by 900 from g0 g99"
+}' >chain.hz
+long_wire() {
+    [ "$("${tool[@]}" draw -w 200 chain.hz | grep -c '>+1</text>')" -eq 2 ]
+}
+holds "a long wire is cut" long_wire
+
 help_fits() {
     [ "$("${tool[@]}" --help | wc -l)" -le 24 ] && [ "$("${tool[@]}" --help | wc -L)" -le 80 ]
 }

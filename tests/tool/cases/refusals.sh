@@ -9,7 +9,7 @@ text size-no-byte ''
 try size-components check components.hz
 awk 'BEGIN {
     for (i = 0; i < 100; i++) print "input i" i " at 0"
-    for (o = 0; o < 42; o++) {
+    for (o = 0; o < 41; o++) {
         line = "output o" o " delay 1 by 9 from"
         for (i = 0; i < 100 && wires < 4097; i++) { line = line " i" i; wires++ }
         print line

@@ -19,6 +19,7 @@ text dash 'input a at -\n'
 text plus 'input a at +5\n'
 text hexadecimal 'input a at 0x10\n'
 text negative "${a}gate g delay -3 from a\n"
+text negative-zero "${a}gate g delay -0 from a\n"
 text great 'input a at 99999999999999999999\n'
 text great-negative 'input a at -2147483649\n'
 text great-delay "${a}gate g delay 4294967296 from a\n"
@@ -30,6 +31,7 @@ text equals "${a}output o delay=1 by 9 from a\n"
 text pin-apart "${a}output o delay 1 by 9 from a +3\n"
 text pin-great "${a}output o delay 1 by 9 from a+65536\n"
 text pin-missing "${a}output o delay 1 by 9 from a+\n"
+text pin-negative "${a}output o delay 1 by 9 from a+-0\n"
 text pin-name "${a}output o delay 1 by 9 from a=b+3\n"
 text accent 'input caf\xc3\xa9 at 0\n'
 text control 'input a\x07 at 0\n'
@@ -47,6 +49,9 @@ text name-dash 'input -a at 0\n'
 text name-hash 'input # at 0\n'
 text word-twice 'input a at 0 at 1\n'
 text from-twice "${a}output o delay 1 by 9 from a from a\n"
+text from-nothing 'input a at 0 from\noutput o delay 1 by 5 from a\n'
+text from-nothing-before-a-word "${a}output o delay 1 from by 5\n"
+text from-nothing-before-a-comment "${a}output o delay 1 by 5 from # a\n"
 text stray-word 'input a 5\n'
 text stray-name "${a}output o delay 1 by 9 x from a\n"
 text stray-kind "${a}output o delay 1 by 9 from a gate\n"
@@ -62,6 +67,7 @@ text gate-by "${a}gate g delay 2 by 4 from a\n"
 text gate-early "${a}gate g delay 2 early 4 from a\n"
 text output-at "${a}output o delay 2 by 9 at 4 from a\n"
 text unknown-name "input clk at 0\noutput o delay 1 by 9 from clq\n"
+text unknown-in-the-readme 'input   clk  at 0\ninput   b    at 5\ngate    g    delay 3  from clq\noutput  out  delay 2  by 20  from b g\n'
 text unknown-by-case "input CLK at 0\noutput o delay 1 by 9 from clk\n"
 text unknown-left-out 'input clock at 0\noutput o delay 1 by 9 from cloc\n'
 text unknown-put-in 'input reset at 0\noutput o delay 1 by 9 from resset\n'
