@@ -45,16 +45,6 @@ static const struct attribute_word *find_attribute(struct word word)
     return NULL;
 }
 
-/* The first of the words whose bits these are. */
-static const struct attribute_word *first_of(unsigned attributes)
-{
-    size_t at = 0;
-    while ((attribute_words[at].attribute & attributes) == 0) {
-        at++;
-    }
-    return &attribute_words[at];
-}
-
 static void store(struct component *component, enum attribute attribute, int64_t number, struct place place)
 {
     if (attribute == DELAY) {
@@ -119,17 +109,30 @@ static bool is_followed(const struct reader *reader)
     return false;
 }
 
+/* Whether the line's component may have the attribute, and has it not yet. */
+static bool is_allowed(struct reader *reader, const struct attribute_word *found, unsigned seen)
+{
+    const struct component *component = &reader->circuit->components[reader->circuit->count - 1];
+    struct place place = reader->word.place;
+    if (found->attribute == DRIVER) {
+        complain(reader->report, place, "`%s` is kept for drivers, which this version does not know", found->word);
+    } else if ((rules[component->kind].forbidden & found->attribute) != 0) {
+        complain(reader->report, place,
+                 "%s `%s` cannot have `%s`: `at` is for inputs, `by` for outputs, `early` for both",
+                 kind_word(component->kind), component->name, found->word);
+    } else if ((seen & found->attribute) != 0) {
+        complain(reader->report, place, "`%s` stands in this line twice", found->word);
+    } else {
+        return true;
+    }
+    return false;
+}
+
 /* An attribute and its number, or `from`. */
 static bool read_attribute(struct reader *reader, const struct attribute_word *found, unsigned seen)
 {
-    struct word word = reader->word;
     int64_t number = 0;
-    if (found->attribute == DRIVER) {
-        complain(reader->report, word.place, "`%s` is kept for drivers, which this version does not know", found->word);
-        return false;
-    }
-    if ((seen & found->attribute) != 0) {
-        complain(reader->report, word.place, "`%s` stands in this line twice", found->word);
+    if (!is_allowed(reader, found, seen)) {
         return false;
     }
     if (found->attribute == FROM) {
@@ -163,19 +166,15 @@ static bool read_attributes(struct reader *reader, unsigned *seen)
     return sound;
 }
 
-static void check_attributes(struct reader *reader, const struct component *component, unsigned seen)
+/* Nothing has a default: what is forgotten is a mistake, and not a 0. */
+static void check_needed(struct reader *reader, const struct component *component, unsigned seen)
 {
-    unsigned forbidden = seen & rules[component->kind].forbidden, missing = rules[component->kind].needed & ~seen;
-    const char *kind = kind_word(component->kind);
-    if (forbidden != 0) {
-        const struct attribute_word *first = first_of(forbidden);
-        complain(reader->report, first->attribute == EARLY ? component->early_at : component->time_at,
-                 "%s `%s` cannot have `%s`: `at` is for inputs, `by` for outputs, `early` for both", kind,
-                 component->name, first->word);
-    } else if (missing != 0) {
-        const struct attribute_word *first = first_of(missing);
-        complain(reader->report, component->at, "%s `%s` has no `%s`", kind, component->name, first->word);
-        hint(reader->report, "%s, in picoseconds", first->meaning);
+    for (size_t at = 0; at < ATTRIBUTE_WORDS; at++) {
+        if ((rules[component->kind].needed & ~seen & attribute_words[at].attribute) != 0) {
+            complain(reader->report, component->at, "%s `%s` has no `%s`", kind_word(component->kind), component->name,
+                     attribute_words[at].word);
+            hint(reader->report, "%s, in picoseconds", attribute_words[at].meaning);
+        }
     }
 }
 
@@ -208,7 +207,7 @@ static void read_component(struct reader *reader)
         new->kind = (uint8_t)kind;
         new->at = reader->word.place;
         if (read_attributes(reader, &seen)) {
-            check_attributes(reader, &reader->circuit->components[reader->circuit->count - 1], seen);
+            check_needed(reader, &reader->circuit->components[reader->circuit->count - 1], seen);
         }
     }
 }

@@ -66,6 +66,7 @@ text gate-at "${a}gate g delay 2 at 4 from a\n"
 text gate-by "${a}gate g delay 2 by 4 from a\n"
 text gate-early "${a}gate g delay 2 early 4 from a\n"
 text output-at "${a}output o delay 2 by 9 at 4 from a\n"
+text output-at-first "${a}output o at 4 by 9 delay 2 from a\n"
 text unknown-name "input clk at 0\noutput o delay 1 by 9 from clq\n"
 text unknown-in-the-readme 'input   clk  at 0\ninput   b    at 5\ngate    g    delay 3  from clq\noutput  out  delay 2  by 20  from b g\n'
 text unknown-by-case "input CLK at 0\noutput o delay 1 by 9 from clk\n"
