@@ -30,4 +30,8 @@ packed_unjudged() {
         tr -d ' \n')" = $later ]
 }
 holds "pins and early times are packed" packed_unjudged
+nothing_packed() {
+    [ -z "$("${tool[@]}" pack --unjudged - </dev/null)" ]
+}
+holds "of nothing an empty netlist is packed" nothing_packed
 try later-records unpack --color never - < <(unhex "$later")
