@@ -81,10 +81,6 @@ static void explain_size(struct report *report, struct found found)
 static void explain_field(struct report *report, const struct asked *asked, struct found found)
 {
     const uint8_t *contents = found.record + 3;
-    if (found.record[0] != HOZBANTIR_TAG_COMPONENT) {
-        complain(report, found.at, "this early time is not taken");
-        return;
-    }
     uint32_t number = found.at.where == AT_BYTE ? found.at.byte / 12 : (uint32_t)found.number;
     uint32_t delay = field(contents + 1, 4);
     int32_t time = hozbantir_signed_at(contents + 5, 0);
