@@ -8,7 +8,6 @@
 #include <string.h>
 #include <unistd.h>
 
-#include "bytes.h"
 #include "hozbantir.h"
 
 const char help[] =

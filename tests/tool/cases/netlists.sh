@@ -9,6 +9,8 @@ netlist tag-connection-length "$i $o 020003 000000"
 netlist tag-late-component "$i $o $w $i"
 netlist tag-result '100007 00 00000000 0000'
 netlist tag-pin "$i $o 020006 0000 0001 012c"
+# 64 components fill the room that the tool has at first, so that a step past the last is seen by the sanitizers.
+netlist tag-early-of-none "$(printf "$i %.0s" {1..64}) 030006 0040 00000000"
 netlist field-kind '010009 03 00000000 00000000'
 netlist field-delay "$i 010009 01 00010000 00000000"
 netlist field-delay-input "$i 010009 00 00000001 00000000"
