@@ -3,14 +3,15 @@
 use mathlib.Core.Path.{_≡_}
 use mathlib.Core.Bool.{Bool}
 use mathlib.Core.List.{List}
-use Prim.Native.Nat.{ℕ, _+_, _<_, _≤_}
+use Prim.Native.Nat.{ℕ, _+_, _/_, _<_, _≤_}
 use lib.IntN.{ℤ}
 use lib.ListN.{length, getD}
 use Rattle.whole.specs.Whole.{up}
 use Rattle.circuit.specs.Circuit.{Circuit, Path, Late, Share}
 use Rattle.circuit.specs.Lists.{at}
 use Rattle.circuit.specs.Netlist.{Netlist, parts, kind, circuitOf, servedOf, serves}
-use Rattle.circuit.specs.Budget.{limit, startIn, roundsFrom, Budgeted, budgetOf}
+use Rattle.circuit.specs.Budget.{toServe, startIn, roundsFrom, Budgeted, budgetOf}
+use Rattle.circuit.specs.RoundsEnd.{RoundsEnd}
 use Rattle.circuit.specs.Demand.{Demand3}
 use Rattle.netlists.specs.Judge.{netOn, boardOf}
 use Rattle.results.specs.declared.Told.{Told}
@@ -18,6 +19,7 @@ use Rattle.results.specs.declared.Told.the-variants as T
 use Rattle.results.specs.Result.{toldOf}
 use Rattle.hozbantir.specs.declared.answers.Answer.{Answer}
 use Rattle.hozbantir.specs.declared.answers.Answer.the-variants as A
+use Rattle.hozbantir.specs.Answers.{numberOf}
 use Rattle.hozbantir.specs.Calls.{saidOf, ReadsBack}
 
 -- ---- what the files say
@@ -67,7 +69,7 @@ pub record Told-right (m : ℕ) (s q : List ℕ) : Type 0 where
   pub summary : summaryIn s q ≡ T.Result m share rounds
   pub said : saidOf s q ≡ increments
   pub rounds-are : rounds ≡ roundsFrom (netlistIn s) (startIn m (netlistIn s) (boardOf s .bases))
-  pub rounds-few : rounds ≤ limit (netlistIn s)
+  pub rounds-few : rounds ≤ toServe (netlistIn s)
   pub plain : m ≡ 0 → share ≡ 0
   pub even : m ≡ 1 → Share (circuitIn s) (servedIn s) (baseIn s) share
 
@@ -91,3 +93,17 @@ pub record Reads-back (s q : List ℕ) : Type 0 where
 pub record Late-exactly (s : List ℕ) (r : Answer) : Type 0 where
   pub only : {x : ℕ} → r ≡ A.Late x → (p : Path (circuitIn s .net)) × Late (circuitIn s) (baseIn s) p
   pub holds : (p : Path (circuitIn s .net)) → Late (circuitIn s) (baseIn s) p → (x : ℕ) × (r ≡ A.Late x)
+
+-- ---- no run stalls
+
+-- Of the netlist s in mode m, whichever that is (request 6 of document 02): after as many rounds as there are components to serve, no served component
+-- has positive slack.
+abbrev pub Never-stalls : (mode : ℕ) → List ℕ → Type 0
+Never-stalls m s = RoundsEnd (netlistIn s) (startIn m (netlistIn s) (boardOf s .bases))
+
+-- So number 9, which was STALLED's, is never given: not in an answer, and not in the number that C gets, whose upper 32 bits it would be.
+abbrev pub Not-nine : Answer → Type 0
+Not-nine r = numberOf r ≡ 9 → ⊥
+
+abbrev pub Sent-not-nine : ℕ → Type 0
+Sent-not-nine v = v / 4294967296 ≡ 9 → ⊥

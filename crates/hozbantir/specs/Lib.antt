@@ -9,6 +9,7 @@ pub mod Determined
 pub mod AnalyseLaws
 pub mod BudgetLaws
 pub mod DemandLaws
+pub mod NineLaws
 -- How the code meets them.
 pub mod AnswerLaws
 pub mod Taken

@@ -12,7 +12,7 @@ use Rattle.circuit.specs.Lists.{at, count}
 use Rattle.circuit.specs.Circuit.{InTime}
 use Rattle.circuit.specs.Times.{Accepted, lowestLate}
 use Rattle.circuit.specs.Rounds.{settled}
-use Rattle.circuit.specs.Budget.{limit, shareIn, startIn, finalFrom, roundsFrom, budgetOf}
+use Rattle.circuit.specs.Budget.{toServe, shareIn, startIn, finalFrom, roundsFrom, budgetOf}
 use Rattle.circuit.specs.Budget as C
 use Rattle.circuit.specs.ServedLaws.{length-served}
 use Rattle.circuit.specs.LateLaws.{late-le, late-none-is}
@@ -74,7 +74,7 @@ module _ {n : Netlist} {sv : List ℕ} {b : List ℤ} (g : Given n sv b) where
   given-sharing e f = record { ready = given-ready; lifts = λ u h. rw (g .marks) (lifted-bounded (g .based) u h); marks-all = given-marks; delays-all = e; arrivals-all = f }
 
   -- the marks say how many rounds are allowed
-  pub given-limit : {c : ℕ} → c ≡ count (marked sv) (length sv) → c ≡ limit n
+  pub given-limit : {c : ℕ} → c ≡ count (marked sv) (length sv) → c ≡ toServe n
   given-limit e = e ∙ rw (g .marks, length-served (n .kinds)) refl
 
   -- nothing is late, so that base delays are in time, and the start of every mode is
@@ -92,18 +92,18 @@ module _ {n : Netlist} {sv : List ℕ} {b : List ℤ} (g : Given n sv b) where
         record { answer = rw q (ap Late e); final = λ {t} {k} w. absurd (let z : _≡_ {A = ℕ} 0 1 = cc in omega arith) }
 
     -- what a run from the start is asked, and gives
-    pub run-asked : {d : List ℤ} {c : ℕ} → parts n ≤ lowestLate n b → d ≡ startIn m n b → c ≡ limit n → Accepted n × Safe n d × (sv ≡ servedOf (n .kinds)) × (limit n ≤ c)
+    pub run-asked : {d : List ℤ} {c : ℕ} → parts n ≤ lowestLate n b → d ≡ startIn m n b → c ≡ toServe n → Accepted n × Safe n d × (sv ≡ servedOf (n .kinds)) × (toServe n ≤ c)
     run-asked h e l = (g .accepted, rw e (given-safe m h), g .marks, omega arith)
 
-    pub run-gave : {d f : List ℤ} {c : ℕ} {end : Ended} → d ≡ startIn m n b → c ≡ limit n → (end ≡ endOf n c d) × (f ≡ settled n (servedOf (n .kinds)) c d) → (end ≡ endOf n (limit n) (startIn m n b)) × (f ≡ finalFrom n (startIn m n b))
+    pub run-gave : {d f : List ℤ} {c : ℕ} {end : Ended} → d ≡ startIn m n b → c ≡ toServe n → (end ≡ endOf n c d) × (f ≡ settled n (servedOf (n .kinds)) c d) → (end ≡ endOf n (toServe n) (startIn m n b)) × (f ≡ finalFrom n (startIn m n b))
     unfolding finalFrom
     run-gave e l p = rw (e, l) at p
 
     -- the rounds from the start end, and no other way
-    pub outcome-stalled : {f : List ℤ} {y : ℕ} {end : Ended} → parts n ≤ lowestLate n b → end ≡ endOf n (limit n) (startIn m n b) → end ≡ E.Stalled y → Budgets m n b f (Stalled y)
+    pub outcome-stalled : {f : List ℤ} {y : ℕ} {end : Ended} → parts n ≤ lowestLate n b → end ≡ endOf n (toServe n) (startIn m n b) → end ≡ E.Stalled y → Budgets m n b f (Stalled y)
     outcome-stalled h e w = let q = rounds-end (g .accepted) (given-safe m h) .0 in absurd (let z : _≡_ {A = ℕ} 0 1 = cc in omega arith)
 
-    pub outcome-done : {f : List ℤ} {t c : ℕ} {end : Ended} → parts n ≤ lowestLate n b → t ≡ shareIn m n b → end ≡ endOf n (limit n) (startIn m n b) → end ≡ E.Done c → f ≡ finalFrom n (startIn m n b) → Budgets m n b f (Budget t c)
+    pub outcome-done : {f : List ℤ} {t c : ℕ} {end : Ended} → parts n ≤ lowestLate n b → t ≡ shareIn m n b → end ≡ endOf n (toServe n) (startIn m n b) → end ≡ E.Done c → f ≡ finalFrom n (startIn m n b) → Budgets m n b f (Budget t c)
     outcome-done {t = t} {c = c} h s e w l =
         let q = rounds-end (g .accepted) (given-safe m h) .0 in
         let same : c ≡ roundsFrom n (startIn m n b) = cc in

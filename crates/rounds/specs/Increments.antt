@@ -10,7 +10,7 @@ use Rattle.whole.specs.Range.{Bounded, bounded-more}
 use Rattle.circuit.specs.Netlist.{Netlist, Based}
 use Rattle.circuit.specs.Lists.{at, tabulate}
 use Rattle.circuit.specs.ListLaws.{length-tabulate, getD-tabulate}
-use Rattle.circuit.specs.Budget.{limit, startIn, finalFrom, increments, budgetOf}
+use Rattle.circuit.specs.Budget.{toServe, startIn, finalFrom, increments, budgetOf}
 use Rattle.circuit.specs.Budget as C
 use Rattle.circuit.specs.ClockLaws.{clock}
 use Rattle.circuit.specs.SafeLaws.{Safe, safe-bounded, based-bounded}
@@ -66,7 +66,7 @@ module _ {n : Netlist} {sv : List ℕ} {b : List ℤ} (g : Given n sv b) {m t k 
       }
 
   -- there is a round for each served component at most
-  pub budget-few : k ≤ limit n
+  pub budget-few : k ≤ toServe n
   budget-few = rounds-most (g .accepted) (g .based) m said
 
   -- share, rounds and increments as the code has them

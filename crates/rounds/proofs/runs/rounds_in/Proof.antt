@@ -1,4 +1,3 @@
-use Rattle.circuit.specs.Budget.{limit}
 use Rattle.circuit.specs.Lists.{at, count}
 use Rattle.circuit.specs.Netlist.{from, netlist, to}
 use Rattle.rounds.specs.Round.{steady}
