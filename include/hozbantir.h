@@ -88,6 +88,7 @@
  *                  numbers for analyse and read back, bytes for budget. All other bytes of the
  *                  buffer keep their values.
  *   number 1 to 11 refusal. The place says where or how much. The buffer keeps all its bytes.
+ *                  No call answers with 9.
  *
  * hozbantir_refusal_name gives a number's name as the table below has it. Slacks and bounds come as
  * four big-endian bytes each: hozbantir_signed_at reads the slack of a component from them, and
@@ -107,8 +108,6 @@
  *    7   ENDS      an input with fan-in, an output with fan-out, no input    lowest such component
  *                  and without fan-in, or no output and without fan-out
  *    8   LATE      an output has negative slack at base delays               lowest such output
- *    9   STALLED   after as many rounds as there are components but inputs,  lowest such component
- *                  one of them still has slack; no netlist leads to this
  *   10   ROOM      the buffer is too short                                   room needed
  *   11   RESULT    the result does not fit the netlist or breaks its rules   offset of the record
  *
@@ -117,10 +116,10 @@
  *
  * If several could be given, this order decides. MODE comes first. Then the records of the netlist
  * from front to back: the first faulty one, and within it the lowest number from BROKEN to WIRING.
- * Then SIZE for the empty netlist, ENDS, LATE, STALLED, RESULT and ROOM. Not every call gives all:
+ * Then SIZE for the empty netlist, ENDS, LATE, RESULT and ROOM. Not every call gives all:
  *
  *   analyse     BROKEN to ENDS, ROOM
- *   budget      MODE, BROKEN to ENDS, LATE, STALLED, ROOM
+ *   budget      MODE, BROKEN to ENDS, LATE, ROOM
  *   read back   BROKEN to ENDS, RESULT, ROOM
  *
  * RESULT is given for the first record of the result that is not the one due there: a record that
@@ -184,7 +183,7 @@ extern "C" {
 #endif
 
 /* The number of the landing (docs/landings) is the minor part. */
-#define HOZBANTIR_VERSION "0.1"
+#define HOZBANTIR_VERSION "0.2"
 
 /* The two parts of an answer. */
 #define HOZBANTIR_NUMBER(answer) ((uint32_t)((uint64_t)(answer) >> 32))
@@ -200,7 +199,6 @@ extern "C" {
 #define HOZBANTIR_REFUSED_WIRING 6
 #define HOZBANTIR_REFUSED_ENDS 7
 #define HOZBANTIR_REFUSED_LATE 8
-#define HOZBANTIR_REFUSED_STALLED 9
 #define HOZBANTIR_REFUSED_ROOM 10
 #define HOZBANTIR_REFUSED_RESULT 11
 
@@ -301,7 +299,6 @@ static inline const char *hozbantir_refusal_name(uint32_t number)
     case HOZBANTIR_REFUSED_WIRING: return "WIRING";
     case HOZBANTIR_REFUSED_ENDS: return "ENDS";
     case HOZBANTIR_REFUSED_LATE: return "LATE";
-    case HOZBANTIR_REFUSED_STALLED: return "STALLED";
     case HOZBANTIR_REFUSED_ROOM: return "ROOM";
     case HOZBANTIR_REFUSED_RESULT: return "RESULT";
     default: return "unknown";

@@ -65,7 +65,7 @@ static void try_name(uint32_t number, const char *name)
 static void try_names(void)
 {
     static const char *const names[] = {
-        "success", "MODE", "BROKEN", "TAG", "SIZE", "FIELD", "WIRING", "ENDS", "LATE", "STALLED",
+        "success", "MODE", "BROKEN", "TAG", "SIZE", "FIELD", "WIRING", "ENDS", "LATE", "unknown",
         "ROOM", "RESULT", "unknown",
     };
     uint32_t number;

@@ -9,11 +9,11 @@ use Rattle.netlists.specs.declared.Verdict.the-variants as J
 use Rattle.results.specs.declared.Told.{Told}
 use Rattle.results.specs.declared.Told.the-variants as T
 use Rattle.hozbantir.specs.declared.answers.Answer.{Answer}
-use Rattle.hozbantir.specs.declared.answers.Answer.the-variants.{Done, Mode, Broken, Tag, Size, Field, Wiring, Ends, Late, Stalled, Room, Result}
+use Rattle.hozbantir.specs.declared.answers.Answer.the-variants.{Done, Mode, Broken, Tag, Size, Field, Wiring, Ends, Late, Room, Result}
 
 -- ---- numbers and places
 
--- "No. | Name", and "Success returns 0"
+-- "No. | Name", and "Success returns 0"; 9 is not given
 abbrev pub numberOf : Answer → ℕ
 numberOf (Done n) = 0
 numberOf Mode = 1
@@ -24,7 +24,6 @@ numberOf (Field a) = 5
 numberOf (Wiring a) = 6
 numberOf (Ends x) = 7
 numberOf (Late x) = 8
-numberOf (Stalled x) = 9
 numberOf (Room n) = 10
 numberOf (Result a) = 11
 
@@ -39,7 +38,6 @@ placeOf (Field a) = a
 placeOf (Wiring a) = a
 placeOf (Ends x) = x
 placeOf (Late x) = x
-placeOf (Stalled x) = x
 placeOf (Room n) = n
 placeOf (Result a) = a
 
@@ -91,8 +89,9 @@ onTold (T.Wrong p) a = Result p
 
 -- ---- number and place tell the answer, so that answer and buffer are determined
 
+-- (9 is nobody's; something has to stand there)
 answerOf : ℕ → ℕ → Answer
-answerOf n p = getD (Done p ∷ Mode ∷ Broken p ∷ Tag p ∷ Size p ∷ Field p ∷ Wiring p ∷ Ends p ∷ Late p ∷ Stalled p ∷ Room p ∷ []) n (Result p)
+answerOf n p = getD (Done p ∷ Mode ∷ Broken p ∷ Tag p ∷ Size p ∷ Field p ∷ Wiring p ∷ Ends p ∷ Late p ∷ Room p ∷ Room p ∷ []) n (Result p)
 
 answer-is : (r : Answer) → answerOf (numberOf r) (placeOf r) ≡ r
 unfolding answerOf
@@ -105,7 +104,6 @@ answer-is (Field a) = refl
 answer-is (Wiring a) = refl
 answer-is (Ends x) = refl
 answer-is (Late x) = refl
-answer-is (Stalled x) = refl
 answer-is (Room n) = refl
 answer-is (Result a) = refl
 

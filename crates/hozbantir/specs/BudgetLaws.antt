@@ -14,7 +14,7 @@ use Rattle.whole.specs.Pick.{is, if?, if-cases}
 use Rattle.circuit.specs.ListLaws.{clash}
 use Rattle.circuit.specs.Netlist.{Netlist, kind, servedOf, serves}
 use Rattle.circuit.specs.ServedLaws.{length-served, serves-yes}
-use Rattle.circuit.specs.Budget.{known, Outcome, LateAt, StalledAt, Budgeted, budgetOf}
+use Rattle.circuit.specs.Budget.{known, Outcome, LateAt, Budgeted, budgetOf}
 use Rattle.circuit.specs.OutcomeLaws.{OfMode, budget-says, rounds-most, increments-most, increments-all, increments-none, share-plain, share-small}
 use Rattle.netlists.specs.Judge.{netOn, boardOf}
 use Rattle.results.specs.Result.{encode, needed, toldOf, incrementsOf}
@@ -72,7 +72,6 @@ module _ {before after : List ℕ} {k : ℕ} where
   outcome-wrote : (m : ℕ) (n : Netlist) (b : List ℤ) (o : Outcome) → Leaves (onOutcome m n b (length before) o) before (Done k) after
       → (t : ℕ) × (r : ℕ) × (l : List ℕ) × (o ≡ Budgeted t r l) × (take k after ≡ encode m t r (servedOf (n .kinds)) b l)
   outcome-wrote m n b (LateAt x) p = absurd (let e = p .number in omega arith)
-  outcome-wrote m n b (StalledAt x) p = absurd (let e = p .number in omega arith)
   outcome-wrote m n b (Budgeted t r l) p =
       let sv = servedOf (n .kinds) in
       let w = encode m t r sv b l in
@@ -81,7 +80,6 @@ module _ {before after : List ℕ} {k : ℕ} where
 
   outcome-counts : (m : ℕ) (n : Netlist) (b : List ℤ) (o : Outcome) → Leaves (onOutcome m n b (length before) o) before (Done k) after → (k ≡ needed (servedOf (n .kinds))) × (k ≤ length before)
   outcome-counts m n b (LateAt x) p = absurd (let e = p .number in omega arith)
-  outcome-counts m n b (StalledAt x) p = absurd (let e = p .number in omega arith)
   outcome-counts m n b (Budgeted t r l) p =
       let sv = servedOf (n .kinds) in
       let (e, h, _) = done-written (length before) (needed sv) (encode m t r sv b l) p in
@@ -141,7 +139,6 @@ budget-decides {m} s {before} {after} {r} h e p =
 -- LATE is the outcome's
 pub outcome-late : (m : ℕ) (n : Netlist) (b : List ℤ) (room : ℕ) {x : ℕ} {before after : List ℕ} (o : Outcome) → Leaves (onOutcome m n b room o) before (Late x) after → o ≡ LateAt x
 outcome-late m n b room (LateAt y) p = ap LateAt (sym (p .place))
-outcome-late m n b room (StalledAt y) p = absurd (let e = p .number in omega arith)
 outcome-late m n b room {x} {before} {after} (Budgeted t k l) p =
     absurd (if-cases (λ u. Leaves u before (Late x) after → ⊥) _ _ _ (λ _ q. let e = q .number in omega arith) (λ _ q. let e = q .number in omega arith) p)
 

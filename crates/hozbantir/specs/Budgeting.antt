@@ -13,14 +13,14 @@ use Rattle.circuit.specs.ServedLaws.{length-served}
 use Rattle.circuit.specs.Budget.{known, budgetOf}
 use Rattle.rounds.specs.declared.budgets.Outcome.{Outcome}
 use Rattle.rounds.specs.declared.budgets.Outcome.the-variants as O
-use Rattle.rounds.specs.Budgets.{answer-late, answer-stalled}
+use Rattle.rounds.specs.Budgets.{answer-late}
 use Rattle.rounds.specs.Budgets as R
 use Rattle.rounds.specs.Increments.{risesOf, Raises, budget-raises, budget-few, budget-told}
 use Rattle.results.specs.Result.{encode, needed}
 use Rattle.results.specs.Columns.{Columns, Bases, bases-within}
 use Rattle.results.specs.Writing.{length-encode}
 use Rattle.hozbantir.specs.declared.answers.Answer.{Answer}
-use Rattle.hozbantir.specs.declared.answers.Answer.the-variants.{Done, Late, Stalled, Room}
+use Rattle.hozbantir.specs.declared.answers.Answer.the-variants.{Done, Late, Room}
 use Rattle.hozbantir.specs.Answers.{inRoom, Leaves}
 use Rattle.hozbantir.specs.AnswerLaws.{refusal-leaves, room-short, room-enough}
 use Rattle.hozbantir.specs.Calls.{budgetOn}
@@ -67,10 +67,6 @@ module _ {n : Netlist} {b f : List ℤ} {m : ℕ} {r : Outcome} (t : Taken n b) 
   pub outcome-late : (before : List ℕ) {x : ℕ} → r ≡ O.Late x → Leaves (budgetOn m n b (length before)) before (Late x) before
   unfolding budgetOn
   outcome-late before {x} e = rw (answer-late (budgetOf m n b) (sym e ∙ a .answer)) (refusal-leaves (Late x) before)
-
-  pub outcome-stalled : (before : List ℕ) {x : ℕ} → r ≡ O.Stalled x → Leaves (budgetOn m n b (length before)) before (Stalled x) before
-  unfolding budgetOn
-  outcome-stalled before {x} e = rw (answer-stalled (budgetOf m n b) (sym e ∙ a .answer)) (refusal-leaves (Stalled x) before)
 
   module _ {sv : List ℕ} (s : sv ≡ servedOf (n .kinds)) {u k : ℕ} (e : r ≡ O.Budget u k) where
     pub outcome-asks : {incs : List ℕ} → m ≤ 1 → length incs ≡ parts n → Writes m k sv b f incs

@@ -6,11 +6,11 @@ use lib.ListN.{length}
 use Rattle.whole.specs.Pick.{is, if?}
 use Rattle.circuit.specs.Netlist.{Netlist, parts, servedOf}
 use Rattle.circuit.specs.Times.{slacks}
-use Rattle.circuit.specs.Budget.{known, Outcome, LateAt, StalledAt, Budgeted, budgetOf}
+use Rattle.circuit.specs.Budget.{known, Outcome, LateAt, Budgeted, budgetOf}
 use Rattle.netlists.specs.Judge.{netOn, boardOf, judgeOf}
 use Rattle.results.specs.Result.{encode, needed, toldOf, incrementsOf, boundsRead}
 use Rattle.hozbantir.specs.declared.answers.Answer.{Answer}
-use Rattle.hozbantir.specs.declared.answers.Answer.the-variants.{Done, Mode, Late, Stalled}
+use Rattle.hozbantir.specs.declared.answers.Answer.the-variants.{Done, Mode, Late}
 use Rattle.hozbantir.specs.Answers.{Left, refusal, inRoom, unless, onVerdict, onTold, Leaves}
 
 -- how the netlist s is judged: Done, with how many components it has, where it is taken
@@ -33,17 +33,15 @@ Analyses s before r after = Leaves (analysisOf s (length before)) before r after
 
 -- ---- budget
 
--- "Budget writes a result with an increment for each net." It needs "10 + 13 × (non-inputs) bytes". "then 7, 8, 9, 10": LATE and STALLED come before
--- ROOM.
+-- "Budget writes a result with an increment for each net." It needs "10 + 13 × (non-inputs) bytes". LATE comes before ROOM.
 abbrev pub onOutcome : (mode : ℕ) → Netlist → List ℤ → (room : ℕ) → Outcome → Left ℕ
 onOutcome m n b room (LateAt x) = refusal (Late x)
-onOutcome m n b room (StalledAt x) = refusal (Stalled x)
 onOutcome m n b room (Budgeted t k l) = inRoom room (needed (servedOf (n .kinds))) (encode m t k (servedOf (n .kinds)) b l)
 
 unfoldable pub budgetOn : (mode : ℕ) → Netlist → List ℤ → (room : ℕ) → Left ℕ
 budgetOn m n b room = onOutcome m n b room (budgetOf m n b)
 
--- "Order: MODE; then records front to back [..]; the empty netlist at the end; then 7, 8, 9, 10."
+-- the order: MODE; the netlist's refusals; LATE; ROOM
 unfoldable pub budgetFor : (mode : ℕ) → List ℕ → (room : ℕ) → Left ℕ
 budgetFor m s room = if? (is (known m)) (unless (takenOf s) (budgetOn m (netOn (boardOf s)) (boardOf s .bases) room)) (refusal Mode)
 

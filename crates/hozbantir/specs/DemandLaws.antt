@@ -15,7 +15,7 @@ use Rattle.circuit.specs.Times.{lowestLate}
 use Rattle.circuit.specs.ServedLaws.{length-served, serves-no, serves-yes}
 use Rattle.circuit.specs.Budget.{Outcome, budgetOf}
 use Rattle.circuit.specs.Demand.{Demand3}
-use Rattle.circuit.specs.OutcomeLaws.{late-says, late-path, rounds-most, share-plain, share-even, demand3}
+use Rattle.circuit.specs.OutcomeLaws.{late-says, late-path, ends, rounds-most, share-plain, share-even, demand3}
 use Rattle.netlists.specs.Judge.{boardOf}
 use Rattle.results.specs.Result.{boundOn, boundsRead}
 use Rattle.results.specs.Bounds.{length-read, read-at}
@@ -59,6 +59,7 @@ demand-2 m s p =
       said = wrote-said w;
       rounds-are = wrote-mode w .rounds;
       rounds-few = rounds-most a b m (wrote-mode w);
+      rounds-end = ends a b m (wrote-mode w .in-time);
       plain = share-plain a b m (wrote-mode w);
       even = λ e. share-even a b m (wrote-mode w) (λ z. omega arith);
     }

@@ -56,11 +56,17 @@ pub record Even (s q : List ℕ) : Type 0 where
   pub summary : summaryIn s q ≡ T.Result 1 share rounds
   pub meets : Demand3 (circuitIn s) (servedIn s) (baseIn s) share (incrementIn s q)
 
+-- ---- no run stalls
+
+-- Of the netlist s in mode m, whichever that is (request 6 of document 02): after as many rounds as there are components to serve, no served component
+-- has positive slack.
+abbrev pub Never-stalls : (mode : ℕ) → List ℕ → Type 0
+Never-stalls m s = RoundsEnd (netlistIn s) (startIn m (netlistIn s) (boardOf s .bases))
+
 -- ---- demand 2
 
--- Of the bytes q that budget wrote in mode m: they say share, rounds and increments of the definition. "The number of rounds is counted and returned;
--- it is at most the number of non-inputs." "The share is the largest whole t such that the circuit stays in time with t added to every non-input."
--- (01, "Share and rounds"); "In plain mode the share field is 0." (01, "The netlist and result files")
+-- Of the bytes q that budget wrote in mode m: they say share, rounds and increments of the definition. The rounds are those of a run that ended by itself,
+-- and no more than the components to serve; the share is 0 in plain mode, and in even mode the most that every served component could take at once.
 pub record Told-right (m : ℕ) (s q : List ℕ) : Type 0 where
   pub share : ℕ
   pub rounds : ℕ
@@ -70,6 +76,7 @@ pub record Told-right (m : ℕ) (s q : List ℕ) : Type 0 where
   pub said : saidOf s q ≡ increments
   pub rounds-are : rounds ≡ roundsFrom (netlistIn s) (startIn m (netlistIn s) (boardOf s .bases))
   pub rounds-few : rounds ≤ toServe (netlistIn s)
+  pub rounds-end : Never-stalls m s
   pub plain : m ≡ 0 → share ≡ 0
   pub even : m ≡ 1 → Share (circuitIn s) (servedIn s) (baseIn s) share
 
@@ -94,14 +101,9 @@ pub record Late-exactly (s : List ℕ) (r : Answer) : Type 0 where
   pub only : {x : ℕ} → r ≡ A.Late x → (p : Path (circuitIn s .net)) × Late (circuitIn s) (baseIn s) p
   pub holds : (p : Path (circuitIn s .net)) → Late (circuitIn s) (baseIn s) p → (x : ℕ) × (r ≡ A.Late x)
 
--- ---- no run stalls
+-- ---- number 9
 
--- Of the netlist s in mode m, whichever that is (request 6 of document 02): after as many rounds as there are components to serve, no served component
--- has positive slack.
-abbrev pub Never-stalls : (mode : ℕ) → List ℕ → Type 0
-Never-stalls m s = RoundsEnd (netlistIn s) (startIn m (netlistIn s) (boardOf s .bases))
-
--- So number 9, which was STALLED's, is never given: not in an answer, and not in the number that C gets, whose upper 32 bits it would be.
+-- As no run stalls, number 9, which was STALLED's, is never given: not in an answer, and not in the number that C gets, whose upper 32 bits it would be.
 abbrev pub Not-nine : Answer → Type 0
 Not-nine r = numberOf r ≡ 9 → ⊥
 

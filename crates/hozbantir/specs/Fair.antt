@@ -1,4 +1,4 @@
--- What every call keeps: a refusal writes nothing, success counts what it writes, and every place is small.
+-- What every call keeps: a refusal writes nothing, success counts what it writes, every place is small, and no number is 9.
 use mathlib.Core.Path.{_≡_, refl, sym, _∙_}
 use mathlib.Core.Logic.{⊎-elim}
 use mathlib.Core.List.{List, []}
@@ -11,7 +11,7 @@ use Rattle.circuit.specs.ListLaws.{count-le}
 use Rattle.circuit.specs.Netlist.{Netlist, parts, servedOf, marked}
 use Rattle.circuit.specs.ServedLaws.{length-served}
 use Rattle.circuit.specs.Times.{slacks}
-use Rattle.circuit.specs.Budget.{known, Outcome, LateAt, StalledAt, Budgeted, budgetOf}
+use Rattle.circuit.specs.Budget.{known, Outcome, LateAt, Budgeted, budgetOf}
 use Rattle.netlists.specs.declared.Verdict.{Verdict}
 use Rattle.netlists.specs.declared.Verdict.the-variants as J
 use Rattle.netlists.specs.Judge.{netOn, boardOf, judgeOf}
@@ -25,25 +25,41 @@ use Rattle.results.specs.Accepted as Q
 use Rattle.results.specs.Writing.{length-encode}
 use Rattle.results.specs.Bounds.{length-read}
 use Rattle.hozbantir.specs.declared.answers.Answer.{Answer}
-use Rattle.hozbantir.specs.declared.answers.Answer.the-variants.{Done, Mode, Broken, Tag, Size, Field, Wiring, Ends, Late, Stalled, Room, Result}
+use Rattle.hozbantir.specs.declared.answers.Answer.the-variants.{Done, Mode, Broken, Tag, Size, Field, Wiring, Ends, Late, Room, Result}
 use Rattle.hozbantir.specs.Answers.{numberOf, placeOf, Left, left, refusal, inRoom, unless, onVerdict, onTold}
 use Rattle.hozbantir.specs.Calls.{takenOf, analysisOn, analysisOf, onOutcome, budgetOn, budgetFor, resultOn, bothOf, saidOf, boundsOn, readBackOf}
+use Rattle.hozbantir.specs.Demands.{Not-nine}
 use Rattle.hozbantir.specs.Slacks.{length-slacks}
 
 pub record Fair {A : Type 0} (l : Left A) : Type 0 where
   pub quiet : 0 < l .number → l .written ≡ []
   pub counted : l .number ≡ 0 → length (l .written) ≡ l .place
   pub small : l .place < 65536
+  pub free : l .number ≡ 9 → ⊥
+
+-- no answer has number 9
+pub not-nine : (r : Answer) → Not-nine r
+not-nine (Done n) e = omega arith
+not-nine Mode e = omega arith
+not-nine (Broken a) e = omega arith
+not-nine (Tag a) e = omega arith
+not-nine (Size a) e = omega arith
+not-nine (Field a) e = omega arith
+not-nine (Wiring a) e = omega arith
+not-nine (Ends x) e = omega arith
+not-nine (Late x) e = omega arith
+not-nine (Room n) e = omega arith
+not-nine (Result a) e = omega arith
 
 module _ {A : Type 0} where
   fair-refusal : (a : Answer) → 0 < numberOf a → placeOf a < 65536 → Fair {A = A} (refusal a)
-  fair-refusal a h k = record { quiet = λ _. refl; counted = λ e. absurd (omega arith); small = k }
+  fair-refusal a h k = record { quiet = λ _. refl; counted = λ e. absurd (omega arith); small = k; free = not-nine a }
 
   fair-room : (room needed : ℕ) (w : List A) → length w ≡ needed → needed < 65536 → Fair (inRoom room needed w)
   fair-room room needed w e k =
       if-cases Fair (lt room needed) (refusal (Room needed)) (left (Done needed) w)
       (λ _. fair-refusal (Room needed) (omega arith) k)
-      (λ _. record { quiet = λ h. absurd (omega arith); counted = λ _. e; small = k })
+      (λ _. record { quiet = λ h. absurd (omega arith); counted = λ _. e; small = k; free = not-nine (Done needed) })
 
   fair-unless : (a : Answer) (l : Left A) → placeOf a < 65536 → Fair l → Fair (unless a l)
   fair-unless a l k f = if-cases Fair (eq (numberOf a) 0) l (refusal a) (λ _. f) (λ h. fair-refusal a (omega arith) k)
@@ -89,16 +105,14 @@ analysis-fair s room =
 -- a component that is named is one
 abbrev Small : Netlist → Outcome → Type 0
 Small n (LateAt x) = x < parts n
-Small n (StalledAt x) = x < parts n
 Small n (Budgeted t k l) = Unit
 
 outcome-small : (m : ℕ) (n : Netlist) (b : List ℤ) → Small n (budgetOf m n b)
 unfolding budgetOf
-outcome-small m n b = if-cases (Small n) _ _ _ (λ h. h) (λ _. if-cases (Small n) _ _ _ (λ h. h) (λ _. tt))
+outcome-small m n b = if-cases (Small n) _ _ _ (λ h. h) (λ _. tt)
 
 outcome-fair : (m : ℕ) (n : Netlist) (b : List ℤ) (room : ℕ) (o : Outcome) → parts n ≤ 1024 → Small n o → Fair (onOutcome m n b room o)
 outcome-fair m n b room (LateAt x) h k = fair-refusal (Late x) (omega arith) (omega arith)
-outcome-fair m n b room (StalledAt x) h k = fair-refusal (Stalled x) (omega arith) (omega arith)
 outcome-fair m n b room (Budgeted t k l) h _ =
     let sv = servedOf (n .kinds) in
     fair-room room (needed sv) (encode m t k sv b l) (length-encode m t k sv b l) (omega (arith, count-le (marked sv) (length sv), length-served (n .kinds)))

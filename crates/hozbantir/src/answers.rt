@@ -15,7 +15,6 @@ pub enum Answer {
     Wiring(usize),
     Ends(usize),
     Late(usize),
-    Stalled(usize),
     Room(usize),
     Result(usize),
 }
@@ -35,7 +34,7 @@ pub fn refused(v: Verdict) -> Answer
     }
 }
 
-// The number of an answer, and its place.
+// The number of an answer, and its place. 9 is no answer's.
 pub fn number(a: Answer) -> u32
     ensures { λ r. ⌜ r ≡ numberOf a ⌝ }
 {
@@ -49,7 +48,6 @@ pub fn number(a: Answer) -> u32
         Answer::Wiring(_) => 6,
         Answer::Ends(_) => 7,
         Answer::Late(_) => 8,
-        Answer::Stalled(_) => 9,
         Answer::Room(_) => 10,
         Answer::Result(_) => 11,
     }
@@ -68,7 +66,6 @@ pub fn place(a: Answer) -> usize
         Answer::Wiring(at) => at,
         Answer::Ends(x) => x,
         Answer::Late(x) => x,
-        Answer::Stalled(x) => x,
         Answer::Room(n) => n,
         Answer::Result(at) => at,
     }

@@ -72,7 +72,6 @@ fn budget_on(
         to,
     ) {
         Outcome::Late(x) => Answer::Late(x),
-        Outcome::Stalled(x) => Answer::Stalled(x),
         Outcome::Budget { share, rounds } => {
             write_in(mode, share, rounds, out, incs, d, served, bases)
         }

@@ -1,5 +1,5 @@
 -- What a budget in code asks, and that it is the definition's.
-use mathlib.Core.Path.{_≡_, refl, sym, ap, _∙_}
+use mathlib.Core.Path.{_≡_, refl, sym, ap}
 use mathlib.Core.List.{List}
 use Prim.Native.Nat.{ℕ, _<_, _≤_}
 use native.Mathlib.Omega.{arith}
@@ -7,47 +7,36 @@ use lib.IntN.{ℤ}
 use lib.ListN.{length}
 use Rattle.whole.specs.Pick.{if-yes}
 use Rattle.whole.specs.Range.{bounded-more}
-use Rattle.circuit.specs.Netlist.{Netlist, parts, circuitOf, servedOf, marked, Based}
-use Rattle.circuit.specs.Lists.{at, count}
+use Rattle.circuit.specs.Netlist.{Netlist, parts, circuitOf, servedOf, Based}
+use Rattle.circuit.specs.Lists.{at}
 use Rattle.circuit.specs.Circuit.{InTime}
 use Rattle.circuit.specs.Times.{Accepted, lowestLate}
-use Rattle.circuit.specs.Rounds.{settled}
-use Rattle.circuit.specs.Budget.{toServe, shareIn, startIn, finalFrom, roundsFrom, budgetOf}
+use Rattle.circuit.specs.Rounds.{Run}
+use Rattle.circuit.specs.Budget.{shareIn, startIn, finalFrom, budgetOf}
 use Rattle.circuit.specs.Budget as C
 use Rattle.circuit.specs.ServedLaws.{length-served}
 use Rattle.circuit.specs.LateLaws.{late-le, late-none-is}
 use Rattle.circuit.specs.ClockLaws.{clock}
 use Rattle.circuit.specs.SafeLaws.{Safe, based-bounded}
 use Rattle.circuit.specs.BudgetLaws.{lifted-bounded, start-is, budget-is}
+use Rattle.circuit.specs.OutcomeLaws.{ends}
 use Rattle.timing.specs.Ready.{Ready}
-use Rattle.rounds.specs.declared.runs.Ended.{Ended}
-use Rattle.rounds.specs.declared.runs.Ended.the-variants as E
 use Rattle.rounds.specs.declared.budgets.Outcome.{Outcome}
-use Rattle.rounds.specs.declared.budgets.Outcome.the-variants.{Late, Stalled, Budget}
+use Rattle.rounds.specs.declared.budgets.Outcome.the-variants.{Late, Budget}
 use Rattle.rounds.specs.Sharing.{Sharing}
-use Rattle.rounds.specs.End.{endOf}
-use Rattle.rounds.specs.EndLaws.{rounds-end}
 
 -- the code's answer to an outcome of the definition, whose increments are final delay less base
 abbrev pub answerOf : C.Outcome → Outcome
 answerOf (C.LateAt x) = Late x
-answerOf (C.StalledAt x) = Stalled x
 answerOf (C.Budgeted t k l) = Budget t k
 
 -- which tells the outcome
 pub answer-late : {x : ℕ} (o : C.Outcome) → Late x ≡ answerOf o → o ≡ C.LateAt x
 answer-late (C.LateAt y) e = cc
-answer-late (C.StalledAt y) e = absurd (let z : _≡_ {A = ℕ} 0 1 = cc in omega arith)
 answer-late (C.Budgeted t k l) e = absurd (let z : _≡_ {A = ℕ} 0 1 = cc in omega arith)
-
-pub answer-stalled : {x : ℕ} (o : C.Outcome) → Stalled x ≡ answerOf o → o ≡ C.StalledAt x
-answer-stalled (C.LateAt y) e = absurd (let z : _≡_ {A = ℕ} 0 1 = cc in omega arith)
-answer-stalled (C.StalledAt y) e = cc
-answer-stalled (C.Budgeted t k l) e = absurd (let z : _≡_ {A = ℕ} 0 1 = cc in omega arith)
 
 pub answer-budget : {t k : ℕ} (o : C.Outcome) → Budget t k ≡ answerOf o → (l : List ℕ) × (o ≡ C.Budgeted t k l)
 answer-budget (C.LateAt y) e = absurd (let z : _≡_ {A = ℕ} 0 1 = cc in omega arith)
-answer-budget (C.StalledAt y) e = absurd (let z : _≡_ {A = ℕ} 0 1 = cc in omega arith)
 answer-budget (C.Budgeted t k l) e = (l, cc)
 
 -- of the mode m, netlist n and base delays b: the answer, and the final delays where there is a budget
@@ -73,10 +62,6 @@ module _ {n : Netlist} {sv : List ℕ} {b : List ℤ} (g : Given n sv b) where
   pub given-sharing : {p q : ℕ} → p ≡ parts n → q ≡ parts n → Sharing n sv b p q
   given-sharing e f = record { ready = given-ready; lifts = λ u h. rw (g .marks) (lifted-bounded (g .based) u h); marks-all = given-marks; delays-all = e; arrivals-all = f }
 
-  -- the marks say how many rounds are allowed
-  pub given-limit : {c : ℕ} → c ≡ count (marked sv) (length sv) → c ≡ toServe n
-  given-limit e = e ∙ rw (g .marks, length-served (n .kinds)) refl
-
   -- nothing is late, so that base delays are in time, and the start of every mode is
   in-time : parts n ≤ lowestLate n b → InTime (circuitOf n) (at b)
   in-time h = late-none-is n b (clock (g .accepted) .timed b (based-bounded (g .based))) (omega (arith, late-le n b))
@@ -91,20 +76,12 @@ module _ {n : Netlist} {sv : List ℕ} {b : List ℤ} (g : Given n sv b) where
         let q : budgetOf m n b ≡ C.LateAt (lowestLate n b) = sym (if-yes _ _ (rw e at h) refl) in
         record { answer = rw q (ap Late e); final = λ {t} {k} w. absurd (let z : _≡_ {A = ℕ} 0 1 = cc in omega arith) }
 
-    -- what a run from the start is asked, and gives
-    pub run-asked : {d : List ℤ} {c : ℕ} → parts n ≤ lowestLate n b → d ≡ startIn m n b → c ≡ toServe n → Accepted n × Safe n d × (sv ≡ servedOf (n .kinds)) × (toServe n ≤ c)
-    run-asked h e l = (g .accepted, rw e (given-safe m h), g .marks, omega arith)
+    -- what a run from the start is asked
+    pub run-asked : {d : List ℤ} → parts n ≤ lowestLate n b → d ≡ startIn m n b → Accepted n × Safe n d × (sv ≡ servedOf (n .kinds))
+    run-asked h e = (g .accepted, rw e (given-safe m h), g .marks)
 
-    pub run-gave : {d f : List ℤ} {c : ℕ} {end : Ended} → d ≡ startIn m n b → c ≡ toServe n → (end ≡ endOf n c d) × (f ≡ settled n (servedOf (n .kinds)) c d) → (end ≡ endOf n (toServe n) (startIn m n b)) × (f ≡ finalFrom n (startIn m n b))
-    unfolding finalFrom
-    run-gave e l p = rw (e, l) at p
-
-    -- the rounds from the start end, and no other way
-    pub outcome-stalled : {f : List ℤ} {y : ℕ} {end : Ended} → parts n ≤ lowestLate n b → end ≡ endOf n (toServe n) (startIn m n b) → end ≡ E.Stalled y → Budgets m n b f (Stalled y)
-    outcome-stalled h e w = let q = rounds-end (g .accepted) (given-safe m h) .0 in absurd (let z : _≡_ {A = ℕ} 0 1 = cc in omega arith)
-
-    pub outcome-done : {f : List ℤ} {t c : ℕ} {end : Ended} → parts n ≤ lowestLate n b → t ≡ shareIn m n b → end ≡ endOf n (toServe n) (startIn m n b) → end ≡ E.Done c → f ≡ finalFrom n (startIn m n b) → Budgets m n b f (Budget t c)
-    outcome-done {t = t} {c = c} h s e w l =
-        let q = rounds-end (g .accepted) (given-safe m h) .0 in
-        let same : c ≡ roundsFrom n (startIn m n b) = cc in
-        record { answer = rw (budget-is (clock (g .accepted)) (g .based) (in-time h) m, s, same) refl; final = λ {t} {k} v. l }
+    -- it is the definition's, since there is no other
+    pub outcome-done : {d f : List ℤ} {t c : ℕ} → parts n ≤ lowestLate n b → t ≡ shareIn m n b → d ≡ startIn m n b → Run n (servedOf (n .kinds)) d f c → Budgets m n b f (Budget t c)
+    outcome-done h s e q =
+        let (final, count) = ends (g .accepted) (g .based) m (in-time h) .only (rw e at q) in
+        record { answer = rw (budget-is (clock (g .accepted)) (g .based) (in-time h) m, s, count) refl; final = λ {t} {k} v. final }

@@ -1,7 +1,5 @@
 pub mod Sharing
 pub mod Round
 pub mod Run
-pub mod End
-pub mod EndLaws
 pub mod Budgets
 pub mod Increments

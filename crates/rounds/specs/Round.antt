@@ -16,7 +16,7 @@ use Rattle.circuit.specs.Rounds.{given, chosen, choiceOf, moves, roundOf}
 use Rattle.circuit.specs.TimesLaws.{length-arrivals}
 use Rattle.circuit.specs.ClockLaws.{clock}
 use Rattle.circuit.specs.SafeLaws.{Safe, safe-bounded, safe-timed, slack-most}
-use Rattle.timing.specs.Ready.{Ready, Gauged}
+use Rattle.timing.specs.Ready.{Ready}
 use Rattle.timing.specs.Bounds.{times-gauged}
 use Rattle.segments.specs.Lent.{Loaded}
 
@@ -69,9 +69,6 @@ loaded {n} {d = d} s l q =
       laid = record { wires = rw (w .delays-all) (w .wired); times = times-gauged w; times-all = length-arrivals n d ∙ sym (w .delays-all); delays-in = w .delays-in };
       marks-all = l ∙ sym (w .delays-all);
     })
-
-pub chose-gauged : {n : Netlist} {sv : List ℕ} {d a r : List ℤ} {x : ℕ} → Steady n d → Chose n sv d a r x → Gauged a r
-chose-gauged s q = rw (q .arrival, q .required) (times-gauged (s .ready))
 
 -- all that spending a slack asks
 pub spendable : {n : Netlist} {sv : List ℕ} {d a r : List ℤ} {x room : ℕ} → Steady n d → length sv ≡ parts n → room ≡ 2 * parts n + 1 → Chose n sv d a r x → x < parts n →

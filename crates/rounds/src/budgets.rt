@@ -8,13 +8,11 @@ ghost use Rattle.rounds.specs.Round.{Desk};
 ghost use Rattle.rounds.specs.Budgets.{Given, Budgets};
 use crate::descent::share;
 use crate::lifts::lift;
-use crate::runs::Ended;
 use crate::runs::run;
 
-// Late or stalled, at a component; or the share, and how many rounds were done.
+// Late, at a component; or the share, and how many rounds were done.
 pub enum Outcome {
     Late(usize),
-    Stalled(usize),
     Budget { share: u32, rounds: usize },
 }
 
@@ -100,9 +98,6 @@ pub fn budget_in(
         return Outcome::Late(x);
     }
     let t = start_in(mode, d, arr, b, served, kinds, times, from, to);
-    let limit = marks::count_served(served);
-    match run(d, arr, req, seg, served, kinds, times, from, to, limit) {
-        Ended::Stalled(y) => Outcome::Stalled(y),
-        Ended::Done(rounds) => Outcome::Budget { share: t, rounds },
-    }
+    let rounds = run(d, arr, req, seg, served, kinds, times, from, to);
+    Outcome::Budget { share: t, rounds }
 }

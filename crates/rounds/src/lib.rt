@@ -10,6 +10,5 @@ pub use budgets::Outcome;
 pub use budgets::budget_in;
 pub use descent::share;
 pub use increments::increments_in;
-pub use runs::Ended;
 pub use runs::run;
 pub use turns::round;

@@ -5,7 +5,7 @@ ghost use lib.ListN.{length};
 ghost use Rattle.rounds.specs.Round.{Desk, Steady, Chose, Rounded};
 
 // This round's times, and the component that it starts from, or the component count.
-pub fn choose_in(
+fn choose_in(
     arr: &mut [i64],
     req: &mut [i64],
     served: &[u8],

@@ -1,9 +1,8 @@
-// The component that a round starts from, and the lowest that still has positive slack; the component count where there is none.
+// The component that a round starts from; the component count where there is none.
 ghost use mathlib.Core.Path.{_≡_};
 ghost use mathlib.Core.Bool.{cond};
 ghost use Prim.Native.Nat.{_<_, _≤_};
 ghost use lib.ListN.{length};
-ghost use Rattle.circuit.specs.Lists.{lowest};
 ghost use Rattle.circuit.specs.Rounds.{beats, choiceOf, positive};
 ghost use Rattle.timing.specs.Ready.{Gauged};
 
@@ -51,18 +50,4 @@ pub fn choose(served: &[u8], arr: &[i64], req: &[i64]) -> usize
         i += 1;
     }
     b
-}
-
-pub fn lowest_positive(served: &[u8], arr: &[i64], req: &[i64]) -> usize
-    requires { ⌜ Gauged (now arr) (now req) × (length (now arr) ≡ length (now served)) ⌝ }
-    ensures { λ r. ⌜ r ≡ lowest (positive (now (served .entry)) (now (arr .entry)) (now (req .entry))) (length (now (served .entry))) ⌝ }
-{
-    let mut i = 0;
-    while i < served.len() {
-        if is_positive(served, arr, req, i) {
-            return i;
-        }
-        i += 1;
-    }
-    served.len()
 }

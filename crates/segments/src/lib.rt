@@ -7,7 +7,6 @@ mod steps;
 mod walks;
 
 pub use choice::choose;
-pub use choice::lowest_positive;
 pub use delivery::deliver;
 pub use delivery::spend_at;
 pub use steps::next;

@@ -16,27 +16,31 @@ pub struct Reply {
     pub contents: Vec<u8>,
 }
 
-struct Bridge {
+/// Times differ from call to call; what the call left is to be the same.
+impl PartialEq for Reply {
+    fn eq(&self, other: &Reply) -> bool {
+        self.answer == other.answer && self.kept == other.kept && self.contents == other.contents
+    }
+}
+
+pub struct Bridge {
     process: Child,
     requests: ChildStdin,
     replies: BufReader<ChildStdout>,
 }
 
 thread_local! {
-    static BRIDGE: RefCell<Bridge> = RefCell::new(Bridge::start().unwrap_or_else(stop));
+    static BRIDGE: RefCell<Bridge> = RefCell::new(Bridge::start("HOZBANTIR_BRIDGE").unwrap_or_else(stop));
 }
 
 /// Sends a request, and takes the reply with so many bytes of contents.
 pub fn ask(request: &[u8], length: usize, what: impl Fn() -> String) -> Reply {
-    BRIDGE.with_borrow_mut(|bridge| {
-        let reply = bridge.ask(request, length);
-        reply.unwrap_or_else(|error| stop(bridge.farewell(&error, &what())))
-    })
+    BRIDGE.with_borrow_mut(|bridge| bridge.ask_for(request, length, what))
 }
 
 impl Bridge {
-    fn start() -> Result<Bridge, String> {
-        let mut command = command("HOZBANTIR_BRIDGE")?;
+    pub fn start(variable: &str) -> Result<Bridge, String> {
+        let mut command = command(variable)?;
         let program = command.get_program().display().to_string();
         let process = command.spawn();
         let process = process.map_err(|error| format!("bridge: {program}: {error}"))?;
@@ -51,6 +55,11 @@ impl Bridge {
             requests,
             replies,
         })
+    }
+
+    pub fn ask_for(&mut self, request: &[u8], length: usize, what: impl Fn() -> String) -> Reply {
+        let reply = self.ask(request, length);
+        reply.unwrap_or_else(|error| stop(self.farewell(&error, &what())))
     }
 
     fn ask(&mut self, request: &[u8], length: usize) -> io::Result<Reply> {
@@ -83,7 +92,7 @@ fn number(bytes: &[u8]) -> u64 {
 }
 
 /// Without the bridge there is nothing to test.
-fn stop<T>(message: String) -> T {
+pub fn stop<T>(message: String) -> T {
     eprintln!("{message}");
     exit(1)
 }

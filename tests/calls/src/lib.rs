@@ -6,9 +6,11 @@
 
 mod bridge;
 mod command;
+mod earlier;
 mod request;
 
 pub use command::{command, run};
+pub use earlier::same;
 pub use request::Request;
 
 /// What a call did: its answer, and the buffer it was lent as it stands after the call.

@@ -3,6 +3,7 @@
 use std::time::Duration;
 
 use crate::bridge;
+use crate::earlier;
 use crate::Outcome;
 
 /// What the bridge is to do with the call.
@@ -96,7 +97,11 @@ impl<'a> Request<'a> {
 
     fn carry_out(&self, task: Task, repeats: u32) -> (Outcome, u64) {
         let what = || format!("{:?} on {} bytes", self.call, self.netlist.len());
-        let reply = bridge::ask(&self.bytes(task, repeats), self.prior.len(), what);
+        let request = self.bytes(task, repeats);
+        let reply = bridge::ask(&request, self.prior.len(), what);
+        if let Task::Make = task {
+            earlier::compare(&request, &reply, what);
+        }
         let outcome = Outcome {
             answer: reply.answer,
             contents: reply.contents,

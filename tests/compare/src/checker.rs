@@ -144,6 +144,9 @@ impl Checker {
 
     pub fn finish(self) -> ExitCode {
         println!("{}", self.tally);
+        if let Some(calls) = calls::same() {
+            println!("{calls} calls left the same as with the earlier library");
+        }
         println!("{} passed, {} failed", self.passed, self.failed);
         if self.failed == 0 {
             ExitCode::SUCCESS

@@ -6,7 +6,7 @@ use crate::{netlist_faults, result_faults};
 
 const LEAST: usize = 20_000;
 
-/// The answers each call can give. STALLED is missing, as no circuit leads to it.
+/// The answers each call can give, by number.
 const ANSWERS: [(Call, &[usize]); 3] = [
     (Call::Analyse, &[0, 2, 3, 4, 5, 6, 7, 10]),
     (Call::Budget, &[0, 1, 2, 3, 4, 5, 6, 7, 8, 10]),
@@ -25,6 +25,8 @@ pub fn check(checker: &mut Checker) {
         }
         let backward_steps = checker.tally.events.backward_steps;
         checker.expect("steps of backward walks", backward_steps, 0);
+        let overlong_runs = checker.tally.overlong_runs;
+        checker.expect("rounds past the last to serve", overlong_runs, 0);
     });
     checker.group("every fault was put in", faults);
 }

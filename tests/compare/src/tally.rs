@@ -16,9 +16,9 @@ pub enum Call {
     ReadBack,
 }
 
-/// Success, then the refusals by number.
+/// Success, then the refusals by number. No answer has number 9.
 pub const NAMES: [&str; 12] = [
-    "success", "MODE", "BROKEN", "TAG", "SIZE", "FIELD", "WIRING", "ENDS", "LATE", "STALLED",
+    "success", "MODE", "BROKEN", "TAG", "SIZE", "FIELD", "WIRING", "ENDS", "LATE", "(none)",
     "ROOM", "RESULT",
 ];
 
@@ -31,6 +31,9 @@ pub struct Tally {
     pub events: Events,
     /// Budgets that took two rounds or more.
     pub long_runs: u64,
+    /// Budgets that took as many rounds as there are components to serve, and more than that.
+    pub full_runs: u64,
+    pub overlong_runs: u64,
     pub netlist_faults: BTreeMap<&'static str, usize>,
     pub result_faults: BTreeMap<&'static str, usize>,
 }
@@ -57,6 +60,8 @@ impl Tally {
         all.stops_before_input += events.stops_before_input;
         all.uneven += events.uneven;
         self.long_runs += u64::from(events.rounds >= 2);
+        self.full_runs += u64::from(events.rounds >= 2 && events.rounds == events.to_serve);
+        self.overlong_runs += u64::from(events.rounds > events.to_serve);
     }
 
     /// How many of the compared inputs differ from each other in what the call was given.
@@ -69,7 +74,7 @@ impl Tally {
     }
 
     /// The turns of the rounds that have to be met, by name.
-    pub fn turns(&self) -> [(&'static str, u64); 9] {
+    pub fn turns(&self) -> [(&'static str, u64); 10] {
         let events = &self.events;
         [
             ("ties for a round's start", events.start_ties),
@@ -93,6 +98,10 @@ impl Tally {
             ("backward stops before an input", events.stops_before_input),
             ("rounds not divided evenly", events.uneven),
             ("budgets of two rounds or more", self.long_runs),
+            (
+                "budgets of a round for each to serve, two or more",
+                self.full_runs,
+            ),
         ]
     }
 }

@@ -1,6 +1,6 @@
 //! What a call answers: how much it wrote, or why it refused and where.
 
-/// The refusal numbers.
+/// The refusal numbers. 9 is nobody's.
 pub mod number {
     pub const MODE: u32 = 1;
     pub const BROKEN: u32 = 2;
@@ -10,7 +10,6 @@ pub mod number {
     pub const WIRING: u32 = 6;
     pub const ENDS: u32 = 7;
     pub const LATE: u32 = 8;
-    pub const STALLED: u32 = 9;
     pub const ROOM: u32 = 10;
     pub const RESULT: u32 = 11;
 }

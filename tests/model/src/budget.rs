@@ -37,7 +37,7 @@ pub fn plan_watched(
     for component in circuit.non_inputs() {
         delays[component] += share;
     }
-    let rounds = rounds::spend(circuit, &mut delays, watch)?;
+    let rounds = rounds::spend(circuit, &mut delays, watch);
     Ok(Budget {
         mode,
         share,

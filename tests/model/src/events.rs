@@ -5,6 +5,8 @@ use crate::rounds::{Round, Watch};
 #[derive(Clone, Copy, Debug, Default)]
 pub struct Events {
     pub rounds: u64,
+    /// How many components the last round's circuit has to serve.
+    pub to_serve: u64,
     /// Rounds with several components of the least slack to start at.
     pub start_ties: u64,
     /// Steps with several fan-outs that fit both equalities.
@@ -27,6 +29,7 @@ pub struct Events {
 impl Watch for Events {
     fn round(&mut self, round: &Round) {
         self.rounds += 1;
+        self.to_serve = round.circuit.non_inputs().count() as u64;
         self.start_ties += u64::from(least_slack_count(round) > 1);
         let slack = round.times.slack(round.start);
         self.uneven += u64::from(slack % round.segment.len() as i64 != 0);

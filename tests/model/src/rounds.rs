@@ -1,6 +1,5 @@
 //! Rounds: each gives the slack of one segment to the components of that segment.
 
-use crate::answer::{number, Refusal};
 use crate::circuit::Circuit;
 use crate::times::Times;
 
@@ -33,22 +32,11 @@ impl Watch for () {
 }
 
 /// Spends the slack of all non-inputs, and counts the rounds it takes.
-pub fn spend(
-    circuit: &Circuit,
-    delays: &mut [i64],
-    watch: &mut impl Watch,
-) -> Result<usize, Refusal> {
-    let most = circuit.non_inputs().count();
+pub fn spend(circuit: &Circuit, delays: &mut [i64], watch: &mut impl Watch) -> usize {
     let mut times = Times::of(circuit, delays);
     let mut segment = Vec::new();
     let mut rounds = 0;
     while let Some(start) = start(circuit, &times) {
-        if rounds == most {
-            return Err(Refusal::new(
-                number::STALLED,
-                lowest_with_slack(circuit, &times),
-            ));
-        }
         find_segment(circuit, delays, &times, start, &mut segment);
         watch.round(&Round {
             circuit,
@@ -61,7 +49,7 @@ pub fn spend(
         times.work_out(circuit, delays);
         rounds += 1;
     }
-    Ok(rounds)
+    rounds
 }
 
 /// Of the non-inputs with positive slack, the lowest of those with the least.
@@ -71,13 +59,6 @@ fn start(circuit: &Circuit, times: &Times) -> Option<usize> {
         .filter(|&component| times.slack(component) > 0);
     // `min_by_key` keeps the first of equals.
     spare.min_by_key(|&component| times.slack(component))
-}
-
-fn lowest_with_slack(circuit: &Circuit, times: &Times) -> usize {
-    circuit
-        .non_inputs()
-        .find(|&component| times.slack(component) > 0)
-        .unwrap_or(0)
 }
 
 /// Walks backward and then forward from the start; the order of the walks makes no difference.

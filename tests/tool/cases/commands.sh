@@ -1,6 +1,10 @@
 # Every command, on circuits that are sound.
 try help --help
-try version --version
+version=$(sed -n 's/^#define HOZBANTIR_VERSION "\(.*\)"$/\1/p' "$repository/include/hozbantir.h")
+says_version() {
+    [ "$("${tool[@]}" --version)" = "hozbantir $version, text form 1" ]
+}
+holds "the header's version" says_version
 try check check circuit-a.hz
 try check-netlist check circuit-a.netlist
 try slacks slacks circuit-a.hz

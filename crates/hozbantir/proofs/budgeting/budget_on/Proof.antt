@@ -1,4 +1,4 @@
-use Rattle.hozbantir.specs.Budgeting.{outcome-late, outcome-stalled, outcome-asks, outcome-done}
+use Rattle.hozbantir.specs.Budgeting.{outcome-late, outcome-asks, outcome-done}
 use Rattle.hozbantir.specs.Taken.{taken-given}
 use mathlib.Core.Path.{_∙_}
 use borrow.Author.Needs.{needs}
@@ -14,9 +14,6 @@ budget-in-requires c κs = let p = c .before .before .before .before .before .be
 
 enum-known-x : tie.Need-enum-known-x
 enum-known-x c = search needs
-
-enum-known-x-2 : tie.Need-enum-known-x-2
-enum-known-x-2 c = search needs
 
 enum-known-share : tie.Need-enum-known-share
 enum-known-share c = search needs
@@ -57,32 +54,14 @@ same-length-9 c = search needs
 same-length-10 : tie.Need-same-length-10
 same-length-10 c = search needs
 
-returns-2 : tie.Need-returns-2
-returns-2 c = outcome-stalled (c .before .before .before .before .before .before .before .before .before .before .before .before .before .before .before .before .before .before .before .before .before .before .before .before .before .pre .0) (c .before .before .before .before .before .before .before .before .budget-in .ensures) _ (c .before .x2 .given .1)
-
 same-length-11 : tie.Need-same-length-11
 same-length-11 c = search needs
 
 same-length-12 : tie.Need-same-length-12
 same-length-12 c = search needs
 
-same-length-13 : tie.Need-same-length-13
-same-length-13 c = search needs
-
-same-length-14 : tie.Need-same-length-14
-same-length-14 c = search needs
-
-same-length-15 : tie.Need-same-length-15
-same-length-15 c = search needs
-
-same-length-16 : tie.Need-same-length-16
-same-length-16 c = search needs
-
-same-length-17 : tie.Need-same-length-17
-same-length-17 c = search needs
-
-returns-3 : tie.Need-returns-3
-returns-3 c = outcome-done (c .before .before .before .before .before .before .before .before .before .before .before .before .before .before .before .before .before .before .before .before .before .before .before .before .before .before .before .before .before .before .before .before .before .before .pre .0) (c .before .before .before .before .before .before .before .before .before .before .before .before .before .before .before .before .before .budget-in .ensures) (c .before .before .before .before .before .before .before .before .before .before .before .before .before .before .before .before .before .before .before .before .before .before .before .before .before .fill-served .ensures) (c .before .before .before .before .before .before .before .before .before .before .share .given .1) (c .before .before .before .before .write-in .ensures)
+returns-2 : tie.Need-returns-2
+returns-2 c = outcome-done (c .before .before .before .before .before .before .before .before .before .before .before .before .before .before .before .before .before .before .before .before .before .before .before .before .before .before .before .before .before .before .before .before .before .before .pre .0) (c .before .before .before .before .before .before .before .before .before .before .before .before .before .before .before .before .before .budget-in .ensures) (c .before .before .before .before .before .before .before .before .before .before .before .before .before .before .before .before .before .before .before .before .before .before .before .before .before .fill-served .ensures) (c .before .before .before .before .before .before .before .before .before .before .share .given .1) (c .before .before .before .before .write-in .ensures)
 
 pub budget-on-spec : {M : Type 1} → statement M
 budget-on-spec =
@@ -91,7 +70,6 @@ budget-on-spec =
     fill-served-requires
     budget-in-requires
     enum-known-x
-    enum-known-x-2
     enum-known-share
     write-in-requires
     same-length
@@ -105,12 +83,6 @@ budget-on-spec =
     same-length-8
     same-length-9
     same-length-10
-    returns-2
     same-length-11
     same-length-12
-    same-length-13
-    same-length-14
-    same-length-15
-    same-length-16
-    same-length-17
-    returns-3)
+    returns-2)

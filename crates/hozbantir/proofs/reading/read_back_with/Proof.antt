@@ -11,8 +11,8 @@ use Rattle.hozbantir.proofs.reading.read_back_with.Statement.{statement
 use Rattle.hozbantir.proofs.reading.read_back_with.Tie as tie
 
 -- what is known past the `else`
-not-done : (a : Answer) → OneOf (1 ∷ 2 ∷ 3 ∷ 4 ∷ 5 ∷ 6 ∷ 7 ∷ 8 ∷ 9 ∷ 10 ∷ 11 ∷ []) (tagOf the-type a) → Refused a
-not-done a k n e = miss (1 ∷ 2 ∷ 3 ∷ 4 ∷ 5 ∷ 6 ∷ 7 ∷ 8 ∷ 9 ∷ 10 ∷ 11 ∷ []) 0 tt (rw e at k)
+not-done : (a : Answer) → OneOf (1 ∷ 2 ∷ 3 ∷ 4 ∷ 5 ∷ 6 ∷ 7 ∷ 8 ∷ 9 ∷ 10 ∷ []) (tagOf the-type a) → Refused a
+not-done a k n e = miss (1 ∷ 2 ∷ 3 ∷ 4 ∷ 5 ∷ 6 ∷ 7 ∷ 8 ∷ 9 ∷ 10 ∷ []) 0 tt (rw e at k)
 
 judge-both-requires : tie.Need-judge-both-requires
 judge-both-requires c κs = search needs

@@ -2,7 +2,7 @@ use Rattle.circuit.specs.Rounds.{positive}
 use Rattle.whole.specs.Range.{via}
 use borrow.Author.Needs.{needs}
 use borrow.Author.Tests.{eq-eqb, ne-eqb}
-use mathlib.Core.Path.{_∙_}
+use mathlib.Core.Path.{_∙_, refl}
 use Rattle.segments.proofs.choice.is_positive.Statement.{statement}
 use Rattle.segments.proofs.choice.is_positive.Tie as tie
 
@@ -17,7 +17,7 @@ less-requires c κs = search needs
 
 returns : tie.Need-returns
 unfolding positive
-returns c = c .less .ensures ∙ simp (via (c .before .slack-at .ok) (c .before .slack-at .ensures), eq-eqb _ _ (c .before .before .if1 .taken))
+returns c = c .less .ensures ∙ simp (via (c .before .slack-at .ok) (c .before .slack-at .ensures), eq-eqb _ _ (c .before .before .if1 .taken)) refl
 
 returns-2 : tie.Need-returns-2
 unfolding positive
