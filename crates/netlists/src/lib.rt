@@ -50,16 +50,15 @@ struct Connection {
     to: u16,
 }
 
-// Both read from a copy of the contents, as every record is read.
+// Both read in the contents that the reader handed on, where they stand in the file.
 fn read_component(p: &[u8]) -> Component
     requires { ⌜ length (now p) ≡ 9 ⌝ }
     ensures { λ r. ⌜ r ≡ componentOf (now (p .entry)) ⌝ }
 {
-    let a = records::copied(p);
     Component {
-        kind: a[0],
-        base: whole::u32_at(&a, 1),
-        time: whole::i32_at(&a, 5),
+        kind: p[0],
+        base: whole::u32_at(p, 1),
+        time: whole::i32_at(p, 5),
     }
 }
 
@@ -67,10 +66,9 @@ fn read_connection(p: &[u8]) -> Connection
     requires { ⌜ length (now p) ≡ 4 ⌝ }
     ensures { λ r. ⌜ r ≡ connectionOf (now (p .entry)) ⌝ }
 {
-    let a = records::copied(p);
     Connection {
-        from: whole::u16_at(&a, 0),
-        to: whole::u16_at(&a, 2),
+        from: whole::u16_at(p, 0),
+        to: whole::u16_at(p, 2),
     }
 }
 

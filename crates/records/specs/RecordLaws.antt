@@ -1,12 +1,12 @@
--- What a found record says of the file, where one is found, and what is read in its contents and in their copy.
-use mathlib.Core.Path.{_≡_, refl, sym, _∙_}
+-- What a found record says of the file, where one is found, and what is read in its contents.
+use mathlib.Core.Path.{_≡_, refl, sym}
 use mathlib.Core.List.{List}
 use Prim.Native.Nat.{ℕ, _+_, _≤_, _<_}
 use native.Mathlib.Omega.{arith}
-use lib.ListN.{length, getD, take, length-take, length-drop}
+use lib.ListN.{length, getD, length-take, length-drop}
 use lib.Seq.{getD-take, getD-drop}
 use Rattle.whole.specs.Pick.{if-yes, if-no, if-cases}
-use Rattle.whole.specs.Bytes.{numberAt, number-same}
+use Rattle.whole.specs.Bytes.{numberAt}
 use Rattle.records.specs.declared.Found.{Found}
 use Rattle.records.specs.declared.Found.the-variants.{Record, Broken, End}
 use Rattle.records.specs.Record.{recordAt, partOf}
@@ -61,12 +61,3 @@ module _ (s : List ℕ) (a n : ℕ) where
 
   pub part-byte : (i : ℕ) → i < n → getD (partOf s a n) i 0 ≡ getD s (a + i) 0
   part-byte i h = rw (getD-take, getD-drop)
-
--- ---- the contents p, copied to the front of b
-
-module _ (b p : List ℕ) (copied : take (length p) b ≡ p) where
-  pub copied-byte : (i : ℕ) → i < length p → getD b i 0 ≡ getD p i 0
-  copied-byte i h = sym (getD-take (length p) b i 0 h) ∙ rw copied
-
-  pub copied-number : (k i : ℕ) → i + k ≤ length p → numberAt k b i ≡ numberAt k p i
-  copied-number k i h = number-same k b p i i (λ m l. copied-byte (i + m) (omega arith))

@@ -1,7 +1,7 @@
 // Tagged records: a tag byte, two bytes of length, and that many bytes of contents.
 ghost use mathlib.Core.Path.{_≡_};
 ghost use Prim.Native.Nat.{_+_, _≤_};
-ghost use lib.ListN.{length, take};
+ghost use lib.ListN.{length};
 ghost use Rattle.whole.specs.Bytes.{numberAt};
 ghost use Rattle.records.specs.Record.{recordAt, partOf};
 
@@ -49,22 +49,12 @@ pub fn record_at(s: &[u8], at: usize) -> Found
     }
 }
 
-// The contents of a record, as a part of the file from its middle.
+// The contents of a record, as a part of the file from its middle. Field readers take that part and read the numbers where they stand.
 pub fn contents(s: &[u8], start: usize, len: usize) -> &[u8]
     requires { ⌜ start + len ≤ length (now s) ⌝ }
     ensures { λ r. ⌜ now r ≡ partOf (now (s .entry)) start len ⌝ }
 {
     &s[start..start + len]
-}
-
-// The one reader for all records: their contents, at most ten bytes, copied to an array of their own before any number is read.
-pub fn copied(p: &[u8]) -> [u8; 10]
-    requires { ⌜ length (now p) ≤ 10 ⌝ }
-    ensures { λ r. ⌜ take (length (now (p .entry))) r ≡ now (p .entry) ⌝ }
-{
-    let mut a = [0u8; 10];
-    bytes::copy(p, &mut a);
-    a
 }
 
 // The record reader: it remembers the file it was given and its place in it. The borrow checker covers no function over a struct that holds a

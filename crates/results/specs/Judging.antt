@@ -24,7 +24,7 @@ use Rattle.results.specs.declared.Told.the-variants.{Result, Wrong}
 use Rattle.results.specs.declared.Bound.{Bound}
 use Rattle.results.specs.declared.Bound.the-variants.{Good, Bad}
 use Rattle.results.specs.Result.{boundTag, summaryOk, boundOk, Ledger, Turn, Go, Stop, withIncrement, onBound, stepOf, readFrom, atEnd, boundsAt, onSummary, toldOf, incsOn, incrementsOf}
-use Rattle.records.specs.RecordLaws.{whole, part-length, copied-byte, copied-number}
+use Rattle.records.specs.RecordLaws.{whole, part-length}
 
 -- ---- the code's answers
 
@@ -88,37 +88,28 @@ pub record Heard (s sv : List ℕ) (bases : List ℤ) (r : Told) (incs : List �
 pub found-is : {A : Type 0} {f f′ : Found} {r : A} (s : List ℕ) (a : ℕ) (g : Found → A) → f ≡ recordAt s a → f ≡ f′ → r ≡ g f′ → r ≡ g (recordAt s a)
 found-is s a g e₁ e₂ e₃ = rw (← e₁, e₂) e₃
 
--- the contents p were copied to the front of an array a, and the numbers were read there
-module _ (a p : List ℕ) (tag : ℕ) (e : take (length p) a ≡ p) where
-  summary-is : {t k : ℕ} (limit : ℕ) → tag ≡ 16 → length p ≡ 7 → t ≡ numberAt 4 a 1 → k ≡ numberAt 2 a 5
-      → if? (is (summaryOk (getD a 0 0) t k limit)) (Result (getD a 0 0) t k) (Wrong 0) ≡ summaryTold tag p limit
+-- a record with this tag and the contents p, by the numbers that were read in them
+module _ (p : List ℕ) (tag : ℕ) where
+  summary-is : {t k : ℕ} (limit : ℕ) → tag ≡ 16 → length p ≡ 7 → t ≡ numberAt 4 p 1 → k ≡ numberAt 2 p 5
+      → if? (is (summaryOk (getD p 0 0) t k limit)) (Result (getD p 0 0) t k) (Wrong 0) ≡ summaryTold tag p limit
   unfolding summaryTold
-  summary-is limit h n e₁ e₂ =
-      let m = sym (copied-byte a p e 0 (omega arith)) in
-      let t = sym (copied-number a p e 4 1 (omega arith)) ∙ sym e₁ in
-      let k = sym (copied-number a p e 2 5 (omega arith)) ∙ sym e₂ in
-      rw (m, t, k) (if-yes _ _ h (if-yes _ _ n refl))
+  summary-is limit h n e₁ e₂ = rw (e₁, e₂) (if-yes _ _ h (if-yes _ _ n refl))
 
-  pub summary-good : {t k : ℕ} {ok : Bool} (limit : ℕ) → tag ≡ 16 → length p ≡ 7 → t ≡ numberAt 4 a 1 → k ≡ numberAt 2 a 5 → ok ≡ summaryOk (getD a 0 0) t k limit → ok ≡ true
-      → Result (getD a 0 0) t k ≡ summaryTold tag p limit
+  pub summary-good : {t k : ℕ} {ok : Bool} (limit : ℕ) → tag ≡ 16 → length p ≡ 7 → t ≡ numberAt 4 p 1 → k ≡ numberAt 2 p 5 → ok ≡ summaryOk (getD p 0 0) t k limit → ok ≡ true
+      → Result (getD p 0 0) t k ≡ summaryTold tag p limit
   summary-good limit h n e₁ e₂ e₃ g = if-yes _ _ (sym e₃ ∙ g) refl ∙ summary-is limit h n e₁ e₂
 
-  pub summary-bad : {t k : ℕ} {ok : Bool} (limit : ℕ) → tag ≡ 16 → length p ≡ 7 → t ≡ numberAt 4 a 1 → k ≡ numberAt 2 a 5 → ok ≡ summaryOk (getD a 0 0) t k limit → ok ≡ false
+  pub summary-bad : {t k : ℕ} {ok : Bool} (limit : ℕ) → tag ≡ 16 → length p ≡ 7 → t ≡ numberAt 4 p 1 → k ≡ numberAt 2 p 5 → ok ≡ summaryOk (getD p 0 0) t k limit → ok ≡ false
       → Wrong 0 ≡ summaryTold tag p limit
   summary-bad limit h n e₁ e₂ e₃ g = if-no _ _ (sym e₃ ∙ g) refl ∙ summary-is limit h n e₁ e₂
 
-  bound-copied : (x b : ℕ) → length p ≡ 10 → boundOk p x b ≡ boundOk a x b
-  unfolding boundOk
-  bound-copied x b n = rw (copied-number a p e 2 0 (omega arith), copied-number a p e 4 2 (omega arith), copied-number a p e 4 6 (omega arith))
-
-  pub bound-good : {i : ℕ} {ok : Bool} (x b place next : ℕ) → tag ≡ boundTag → length p ≡ 10 → i ≡ numberAt 4 a 6 → ok ≡ boundOk a x b → ok ≡ true → Good next i ≡ boundTold tag p x b place next
+  pub bound-good : {i : ℕ} {ok : Bool} (x b place next : ℕ) → tag ≡ boundTag → length p ≡ 10 → ok ≡ boundOk p x b → ok ≡ true → i ≡ numberAt 4 p 6 → Good next i ≡ boundTold tag p x b place next
   unfolding boundTold
-  bound-good x b place next h n e₁ e₂ g =
-      if-yes _ _ h (if-yes _ _ n (if-yes _ _ (bound-copied x b n ∙ sym e₂ ∙ g) (rw (e₁, copied-number a p e 4 6 (omega arith)))))
+  bound-good x b place next h n e g e₁ = if-yes _ _ h (if-yes _ _ n (if-yes _ _ (sym e ∙ g) (rw e₁)))
 
-  pub bound-bad : {ok : Bool} (x b place next : ℕ) → tag ≡ boundTag → length p ≡ 10 → ok ≡ boundOk a x b → ok ≡ false → Bad place ≡ boundTold tag p x b place next
+  pub bound-bad : {ok : Bool} (x b place next : ℕ) → tag ≡ boundTag → length p ≡ 10 → ok ≡ boundOk p x b → ok ≡ false → Bad place ≡ boundTold tag p x b place next
   unfolding boundTold
-  bound-bad x b place next h n e₂ g = if-yes _ _ h (if-yes _ _ n (if-no _ _ (bound-copied x b n ∙ sym e₂ ∙ g) refl))
+  bound-bad x b place next h n e g = if-yes _ _ h (if-yes _ _ n (if-no _ _ (sym e ∙ g) refl))
 
 -- a function over the branches of a choice
 if-map : {A B : Type 0} (f : A → B) {u v : A} {y z : B} (t : Test) → (Yes t → f u ≡ y) → f v ≡ z → f (if? t u v) ≡ if? t y z

@@ -138,10 +138,9 @@ fn on_summary(tag: u8, p: &[u8], limit: usize) -> Told
     if p.len() != 7 {
         return Told::Wrong(0);
     }
-    let a = records::copied(p);
-    let mode = a[0];
-    let share = whole::u32_at(&a, 1);
-    let rounds = whole::u16_at(&a, 5);
+    let mode = p[0];
+    let share = whole::u32_at(p, 1);
+    let rounds = whole::u16_at(p, 5);
     if summary_ok(mode, share, rounds, limit) {
         Told::Result {
             mode,
@@ -191,9 +190,8 @@ fn on_bound(tag: u8, p: &[u8], component: u16, base: u64, at: usize, next: usize
     if p.len() != 10 {
         return Bound::Bad(at);
     }
-    let a = records::copied(p);
-    let increment = whole::u32_at(&a, 6);
-    if bound_ok(&a, component, base) {
+    if bound_ok(p, component, base) {
+        let increment = whole::u32_at(p, 6);
         Bound::Good { next, increment }
     } else {
         Bound::Bad(at)

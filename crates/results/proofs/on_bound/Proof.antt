@@ -13,26 +13,17 @@ returns-2 : tie.Need-returns-2
 unfolding boundTold
 returns-2 c = if-yes _ _ (c .before .if1 .left) (if-no _ _ (c .if2 .taken) refl)
 
-copied-requires : tie.Need-copied-requires
-copied-requires c κs = search needs
-
-slice-aggregate-u32-at : tie.Need-slice-aggregate-u32-at
-slice-aggregate-u32-at c = search needs
+bound-ok-requires : tie.Need-bound-ok-requires
+bound-ok-requires c κs = search needs
 
 u32-at-requires : tie.Need-u32-at-requires
 u32-at-requires c κs = search needs
 
-slice-aggregate-bound-ok : tie.Need-slice-aggregate-bound-ok
-slice-aggregate-bound-ok c = search needs
-
-bound-ok-requires : tie.Need-bound-ok-requires
-bound-ok-requires c κs = search needs
-
 returns-3 : tie.Need-returns-3
-returns-3 c = bound-good _ _ _ (c .before .before .before .before .before .copied .ensures) _ _ _ _ (c .before .before .before .before .before .before .before .if1 .left) (c .before .before .before .before .before .before .if2 .left) (c .before .before .before .u32-at .ensures) (c .before .bound-ok .ensures) (c .if3 .taken)
+returns-3 c = bound-good _ _ _ _ _ _ (c .before .before .before .before .if1 .left) (c .before .before .before .if2 .left) (c .before .before .bound-ok .ensures) (c .before .if3 .taken) (c .u32-at .ensures)
 
 returns-4 : tie.Need-returns-4
-returns-4 c = bound-bad _ _ _ (c .before .before .before .before .before .copied .ensures) _ _ _ _ (c .before .before .before .before .before .before .before .if1 .left) (c .before .before .before .before .before .before .if2 .left) (c .before .bound-ok .ensures) (c .if3 .left)
+returns-4 c = bound-bad _ _ _ _ _ _ (c .before .before .before .if1 .left) (c .before .before .if2 .left) (c .before .bound-ok .ensures) (c .if3 .left)
 
 pub on-bound-spec : {M : Type 1} → statement M
 on-bound-spec =
@@ -40,10 +31,7 @@ on-bound-spec =
     (tie.spec
     returns
     returns-2
-    copied-requires
-    slice-aggregate-u32-at
-    u32-at-requires
-    slice-aggregate-bound-ok
     bound-ok-requires
+    u32-at-requires
     returns-3
     returns-4)

@@ -13,20 +13,11 @@ returns-2 : tie.Need-returns-2
 unfolding summaryTold
 returns-2 c = if-yes _ _ (c .before .if1 .left) (if-no _ _ (c .if2 .taken) refl)
 
-copied-requires : tie.Need-copied-requires
-copied-requires c κs = search needs
-
-array-read-mode : tie.Need-array-read-mode
-array-read-mode c = search needs
-
-slice-aggregate-u32-at : tie.Need-slice-aggregate-u32-at
-slice-aggregate-u32-at c = search needs
+shared-slice-read-mode : tie.Need-shared-slice-read-mode
+shared-slice-read-mode c = search needs
 
 u32-at-requires : tie.Need-u32-at-requires
 u32-at-requires c κs = search needs
-
-slice-aggregate-u16-at : tie.Need-slice-aggregate-u16-at
-slice-aggregate-u16-at c = search needs
 
 u16-at-requires : tie.Need-u16-at-requires
 u16-at-requires c κs = search needs
@@ -35,10 +26,10 @@ summary-ok-requires : tie.Need-summary-ok-requires
 summary-ok-requires c κs = search needs
 
 returns-3 : tie.Need-returns-3
-returns-3 c = summary-good _ _ _ (c .before .before .before .before .before .before .copied .ensures) _ (c .before .before .before .before .before .before .before .before .if1 .left) (c .before .before .before .before .before .before .before .if2 .left) (c .before .before .before .before .u32-at .ensures) (c .before .before .u16-at .ensures) (c .before .summary-ok .ensures) (c .if3 .taken)
+returns-3 c = summary-good _ _ _ (c .before .before .before .before .before .before .if1 .left) (c .before .before .before .before .before .if2 .left) (c .before .before .before .u32-at .ensures) (c .before .before .u16-at .ensures) (c .before .summary-ok .ensures) (c .if3 .taken)
 
 returns-4 : tie.Need-returns-4
-returns-4 c = summary-bad _ _ _ (c .before .before .before .before .before .before .copied .ensures) _ (c .before .before .before .before .before .before .before .before .if1 .left) (c .before .before .before .before .before .before .before .if2 .left) (c .before .before .before .before .u32-at .ensures) (c .before .before .u16-at .ensures) (c .before .summary-ok .ensures) (c .if3 .left)
+returns-4 c = summary-bad _ _ _ (c .before .before .before .before .before .before .if1 .left) (c .before .before .before .before .before .if2 .left) (c .before .before .before .u32-at .ensures) (c .before .before .u16-at .ensures) (c .before .summary-ok .ensures) (c .if3 .left)
 
 pub on-summary-spec : {M : Type 1} → statement M
 on-summary-spec =
@@ -46,11 +37,8 @@ on-summary-spec =
     (tie.spec
     returns
     returns-2
-    copied-requires
-    array-read-mode
-    slice-aggregate-u32-at
+    shared-slice-read-mode
     u32-at-requires
-    slice-aggregate-u16-at
     u16-at-requires
     summary-ok-requires
     returns-3
