@@ -15,7 +15,7 @@ use Rattle.rounds.specs.declared.budgets.Outcome.{Outcome}
 use Rattle.rounds.specs.declared.budgets.Outcome.the-variants as O
 use Rattle.rounds.specs.Budgets.{answer-late}
 use Rattle.rounds.specs.Budgets as R
-use Rattle.rounds.specs.Increments.{risesOf, Raises, budget-raises, budget-few, budget-told}
+use Rattle.rounds.specs.Increments.{risesOf, budget-all, budget-few, budget-told}
 use Rattle.results.specs.Result.{encode, needed}
 use Rattle.results.specs.Columns.{Columns, Bases, bases-within}
 use Rattle.results.specs.Writing.{length-encode}
@@ -38,8 +38,7 @@ mode-unknown {m} h = lt-leb m 1 h
 -- base delays b and final delays f of the components that are marked, an array for their increments, and a summary that fits its fields
 pub record Writes (m k : ℕ) (sv : List ℕ) (b f : List ℤ) (incs : List ℕ) : Type 0 where
   pub columns : Columns sv b incs
-  pub bases : Bases b
-  pub raises : Raises b f
+  pub finals : length f ≡ length b
   pub mode : m ≤ 1
   pub rounds : k ≤ 1024
 
@@ -74,8 +73,7 @@ module _ {n : Netlist} {b f : List ℤ} {m : ℕ} {r : Outcome} (t : Taken n b) 
         let few = t .accepted .judged .few in
         record {
           columns = taken-columns t s i;
-          bases = taken-bases t;
-          raises = budget-raises (taken-given t s) a e;
+          finals = budget-all (taken-given t s) a e;
           mode = h;
           rounds = omega (arith, budget-few (taken-given t s) a e, count-le (serves n) (parts n));
         }

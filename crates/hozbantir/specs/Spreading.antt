@@ -1,16 +1,12 @@
 -- How the exports meet what they send: numbers put one after the other into bytes, and the answer as one number.
 use mathlib.Core.Path.{_≡_, refl, sym, ap, _∙_}
 use mathlib.Core.List.{List, [], _∷_, _++_, append-assoc, append-nil}
-use Prim.Native.Nat.{ℕ, suc, _+_, _*_, _^_, _<_, _≤_}
+use Prim.Native.Nat.{ℕ, suc, _+_, _*_, _<_, _≤_}
 use native.Mathlib.Omega.{arith}
 use native.Mathlib.Numerals.{add-one}
 use lib.IntN.{ℤ}
 use lib.ListN.{length, getD, take, drop, length-append}
 use lib.Seq.{length-take-le, take-suc, take-all, take-at}
-use lib.Signed.{mag}
-use mir.Syntax.{w32}
-use mir.Val.{toZ, ofZ}
-use mir.ValLaws.{toZ-ofZ}
 use Rattle.whole.specs.Bytes.{bytesOf, putAt, length-bytes}
 use Rattle.results.specs.Writing.{Begun, begun-none, begun-put}
 use Rattle.hozbantir.specs.declared.answers.Answer.{Answer}
@@ -18,10 +14,6 @@ use Rattle.hozbantir.specs.Answers.{numberOf, placeOf, Left, Leaves}
 use Rattle.hozbantir.specs.Exports.{codeOf, spread, sent, Sends}
 use Rattle.hozbantir.specs.Calls.{analysisOf, Analyses, readBackOf, ReadsBack}
 use Rattle.hozbantir.specs.Fair.{Fair, Enough, analysis-enough, reads-enough}
-
--- a slack that is passed on goes through its bits, and comes back
-pub back32 : (z : ℤ) → mag z < 2 ^ 31 → toZ w32 (ofZ w32 z) ≡ z
-back32 z h = toZ-ofZ w32 z (record { sfits = h })
 
 module _ {A : Type 0} (f : A → ℕ) where
   spread-append : (xs ys : List A) → spread f (xs ++ ys) ≡ spread f xs ++ spread f ys

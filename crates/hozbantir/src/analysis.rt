@@ -17,9 +17,9 @@ fn slacks_on(
     out: &mut [i32],
     arr: &mut [i64],
     req: &mut [i64],
-    bases: &[i64],
+    bases: &[i32],
     kinds: &[u8],
-    times: &[i64],
+    times: &[i32],
     from: &[u16],
     to: &[u16],
 )
@@ -32,7 +32,7 @@ fn slacks_on(
 }
 
 // The same, with arrays for the times.
-fn slacks_in(out: &mut [i32], bases: &[i64], kinds: &[u8], times: &[i64], from: &[u16], to: &[u16])
+fn slacks_in(out: &mut [i32], bases: &[i32], kinds: &[u8], times: &[i32], from: &[u16], to: &[u16])
     requires { ⌜ Taken (netlist (now kinds) (now times) (now from) (now to)) (now bases) × (length (now out) ≡ length (now kinds)) ⌝ }
     ensures { λ _. ⌜ now (out .exit) ≡ slacks (netlist (now (kinds .entry)) (now (times .entry)) (now (from .entry)) (now (to .entry))) (now (bases .entry)) ⌝ }
 {
@@ -56,9 +56,9 @@ fn analyse_in(
     n: usize,
     m: usize,
     out: &mut [i32],
-    bases: &[i64],
+    bases: &[i32],
     kinds: &[u8],
-    times: &[i64],
+    times: &[i32],
     from: &[u16],
     to: &[u16],
 ) -> Answer
@@ -84,8 +84,8 @@ fn analyse_with(
     netlist: &[u8],
     out: &mut [i32],
     kinds: &mut [u8],
-    bases: &mut [i64],
-    times: &mut [i64],
+    bases: &mut [i32],
+    times: &mut [i32],
     from: &mut [u16],
     to: &mut [u16],
 ) -> Answer
@@ -104,8 +104,8 @@ pub fn analyse(netlist: &[u8], slacks: &mut [i32]) -> Answer
     ensures { λ r. ⌜ Analyses (now (netlist .entry)) (now (slacks .entry)) r (now (slacks .exit)) ⌝ }
 {
     let mut kinds = [0u8; 1024];
-    let mut bases = [0i64; 1024];
-    let mut times = [0i64; 1024];
+    let mut bases = [0i32; 1024];
+    let mut times = [0i32; 1024];
     let mut from = [0u16; 4096];
     let mut to = [0u16; 4096];
     analyse_with(

@@ -22,9 +22,9 @@ fn write_in(
     count: usize,
     out: &mut [u8],
     incs: &mut [u32],
-    finals: &[i64],
+    finals: &[i32],
     served: &[u8],
-    bases: &[i64],
+    bases: &[i32],
 ) -> Answer
     requires { ⌜ Writes mode count (now served) (now bases) (now finals) (now incs) ⌝ }
     ensures { λ r. ⌜ Leaves (inRoom (length (now (out .entry))) (needed (now (served .entry))) (written mode share count (now (served .entry)) (now (bases .entry)) (now (finals .entry)))) (now (out .entry)) r (now (out .exit)) ⌝ }
@@ -42,15 +42,15 @@ fn write_in(
 fn budget_on(
     mode: u32,
     out: &mut [u8],
-    d: &mut [i64],
+    d: &mut [i32],
     arr: &mut [i64],
     req: &mut [i64],
     seg: &mut [u16],
     served: &mut [u8],
     incs: &mut [u32],
-    bases: &[i64],
+    bases: &[i32],
     kinds: &[u8],
-    times: &[i64],
+    times: &[i32],
     from: &[u16],
     to: &[u16],
 ) -> Answer
@@ -84,16 +84,16 @@ fn budget_in(
     n: usize,
     m: usize,
     out: &mut [u8],
-    bases: &[i64],
+    bases: &[i32],
     kinds: &[u8],
-    times: &[i64],
+    times: &[i32],
     from: &[u16],
     to: &[u16],
 ) -> Answer
     requires { ⌜ Filled n m (arrays (now kinds) (now bases) (now times) (now from) (now to)) × (mode ≤ 1) ⌝ }
     ensures { λ r. ⌜ Leaves (budgetOn mode (netIn n m (arrays (now (kinds .entry)) (now (bases .entry)) (now (times .entry)) (now (from .entry)) (now (to .entry)))) (take n (now (bases .entry))) (length (now (out .entry)))) (now (out .entry)) r (now (out .exit)) ⌝ }
 {
-    let mut d = [0i64; 1024];
+    let mut d = [0i32; 1024];
     let mut arr = [0i64; 1024];
     let mut req = [0i64; 1024];
     let mut seg = [0u16; 2049];
@@ -122,8 +122,8 @@ fn budget_with(
     netlist: &[u8],
     out: &mut [u8],
     kinds: &mut [u8],
-    bases: &mut [i64],
-    times: &mut [i64],
+    bases: &mut [i32],
+    times: &mut [i32],
     from: &mut [u16],
     to: &mut [u16],
 ) -> Answer
@@ -145,8 +145,8 @@ pub fn budget(mode: u32, netlist: &[u8], result: &mut [u8]) -> Answer
     ensures { λ r. ⌜ Budgets mode (now (netlist .entry)) (now (result .entry)) r (now (result .exit)) ⌝ }
 {
     let mut kinds = [0u8; 1024];
-    let mut bases = [0i64; 1024];
-    let mut times = [0i64; 1024];
+    let mut bases = [0i32; 1024];
+    let mut times = [0i32; 1024];
     let mut from = [0u16; 4096];
     let mut to = [0u16; 4096];
     budget_with(

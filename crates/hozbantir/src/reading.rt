@@ -16,7 +16,7 @@ use results::Told;
 fn judge_on(
     result: &[u8],
     kinds: &[u8],
-    bases: &[i64],
+    bases: &[i32],
     served: &mut [u8],
     incs: &mut [u32],
 ) -> Answer
@@ -39,7 +39,7 @@ fn judge_in(
     n: usize,
     result: &[u8],
     kinds: &[u8],
-    bases: &[i64],
+    bases: &[i32],
     served: &mut [u8],
     incs: &mut [u32],
 ) -> Answer
@@ -60,8 +60,8 @@ fn judge_both(
     netlist: &[u8],
     result: &[u8],
     kinds: &mut [u8],
-    bases: &mut [i64],
-    times: &mut [i64],
+    bases: &mut [i32],
+    times: &mut [i32],
     from: &mut [u16],
     to: &mut [u16],
     served: &mut [u8],
@@ -78,7 +78,7 @@ fn judge_both(
 }
 
 // The bounds of n components, if the buffer has room.
-fn bounds_on(n: usize, out: &mut [u32], served: &[u8], bases: &[i64], incs: &[u32]) -> Answer
+fn bounds_on(n: usize, out: &mut [u32], served: &[u8], bases: &[i32], incs: &[u32]) -> Answer
     requires { ⌜ Listed n (now served) (now bases) (now incs) ⌝ }
     ensures { λ r. ⌜ Leaves (inRoom (length (now (out .entry))) n (boundsRead (take n (now (served .entry))) (take n (now (bases .entry))) (take n (now (incs .entry))))) (now (out .entry)) r (now (out .exit)) ⌝ }
 {
@@ -95,8 +95,8 @@ fn read_back_with(
     result: &[u8],
     out: &mut [u32],
     kinds: &mut [u8],
-    bases: &mut [i64],
-    times: &mut [i64],
+    bases: &mut [i32],
+    times: &mut [i32],
     from: &mut [u16],
     to: &mut [u16],
     served: &mut [u8],
@@ -117,8 +117,8 @@ pub fn read_back(netlist: &[u8], result: &[u8], bounds: &mut [u32]) -> Answer
     ensures { λ r. ⌜ ReadsBack (now (netlist .entry)) (now (result .entry)) (now (bounds .entry)) r (now (bounds .exit)) ⌝ }
 {
     let mut kinds = [0u8; 1024];
-    let mut bases = [0i64; 1024];
-    let mut times = [0i64; 1024];
+    let mut bases = [0i32; 1024];
+    let mut times = [0i32; 1024];
     let mut from = [0u16; 4096];
     let mut to = [0u16; 4096];
     let mut served = [0u8; 1024];

@@ -142,15 +142,16 @@ fn wiring_ok(from: u16, to: u16, count: usize, least: u32) -> bool
 
 // ---- one record
 
-fn put_component(kinds: &mut [u8], bases: &mut [i64], times: &mut [i64], i: usize, c: Component)
-    requires { ⌜ (i < length (now kinds)) × (i < length (now bases)) × (i < length (now times)) ⌝ }
+fn put_component(kinds: &mut [u8], bases: &mut [i32], times: &mut [i32], i: usize, c: Component)
+    requires { ⌜ (i < length (now kinds)) × (i < length (now bases)) × (i < length (now times)) × (c .base ≤ 65535) ⌝ }
     ensures { λ _. ⌜ now (kinds .exit) ≡ set (now (kinds .entry)) i (c .kind) ⌝ }
     ensures { λ _. ⌜ now (bases .exit) ≡ set (now (bases .entry)) i (pos (c .base)) ⌝ }
     ensures { λ _. ⌜ now (times .exit) ≡ set (now (times .entry)) i (c .time) ⌝ }
 {
+    let time = c.time;
     kinds[i] = c.kind;
-    bases[i] = whole::of_u32(c.base);
-    times[i] = whole::of_i32(c.time);
+    bases[i] = whole::narrow(whole::of_u32(c.base));
+    times[i] = time;
 }
 
 fn put_connection(from: &mut [u16], to: &mut [u16], j: usize, w: Connection)
@@ -168,8 +169,8 @@ fn on_component(
     st: State,
     next: usize,
     kinds: &mut [u8],
-    bases: &mut [i64],
-    times: &mut [i64],
+    bases: &mut [i32],
+    times: &mut [i32],
 ) -> Stepped
     requires { ⌜ Room st × LongParts (now kinds) (now bases) (now times) ⌝ }
     ensures { λ r. ⌜ OnComponent r (now (p .entry)) st next (now (kinds .entry)) (now (bases .entry)) (now (times .entry)) (now (kinds .exit)) (now (bases .exit)) (now (times .exit)) ⌝ }
@@ -233,8 +234,8 @@ fn on_record(
     st: State,
     next: usize,
     kinds: &mut [u8],
-    bases: &mut [i64],
-    times: &mut [i64],
+    bases: &mut [i32],
+    times: &mut [i32],
     from: &mut [u16],
     to: &mut [u16],
 ) -> Stepped
@@ -264,8 +265,8 @@ fn step(
     s: &[u8],
     st: State,
     kinds: &mut [u8],
-    bases: &mut [i64],
-    times: &mut [i64],
+    bases: &mut [i32],
+    times: &mut [i32],
     from: &mut [u16],
     to: &mut [u16],
 ) -> Stepped
@@ -299,8 +300,8 @@ fn step(
 fn read_records(
     s: &[u8],
     kinds: &mut [u8],
-    bases: &mut [i64],
-    times: &mut [i64],
+    bases: &mut [i32],
+    times: &mut [i32],
     from: &mut [u16],
     to: &mut [u16],
 ) -> Verdict
@@ -441,8 +442,8 @@ fn with_ends(v: Verdict, kinds: &[u8], from: &[u16], to: &[u16]) -> Verdict
 pub fn read_netlist(
     s: &[u8],
     kinds: &mut [u8],
-    bases: &mut [i64],
-    times: &mut [i64],
+    bases: &mut [i32],
+    times: &mut [i32],
     from: &mut [u16],
     to: &mut [u16],
 ) -> Verdict

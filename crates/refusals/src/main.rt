@@ -123,8 +123,8 @@ fn told(t: Told) {
 
 fn judge_netlist(s: &[u8]) -> Verdict {
     let mut kinds = [0u8; 1024];
-    let mut bases = [0i64; 1024];
-    let mut times = [0i64; 1024];
+    let mut bases = [0i32; 1024];
+    let mut times = [0i32; 1024];
     let mut from = [0u16; 4096];
     let mut to = [0u16; 4096];
     netlists::read_netlist(s, &mut kinds, &mut bases, &mut times, &mut from, &mut to)
@@ -133,7 +133,7 @@ fn judge_netlist(s: &[u8]) -> Verdict {
 // Against circuit A, whose components 2 and 3 are served.
 fn judge_result(s: &[u8]) -> Told {
     let served = [0u8, 0, 1, 1];
-    let bases = [0i64, 0, 3, 2];
+    let bases = [0i32, 0, 3, 2];
     let mut incs = [0u32; 4];
     results::judge_result(s, &served, &bases, &mut incs)
 }

@@ -39,11 +39,10 @@ pub fn needed_bytes(served: &[u8]) -> usize
 }
 
 // A base delay as a file has it.
-fn base_of(b: i64) -> u32
-    requires { ⌜ up b ≤ 65535 ⌝ }
+fn base_of(b: i32) -> u32
     ensures { λ r. ⌜ r ≡ up b ⌝ }
 {
-    whole::unsigned(b) as u32
+    whole::unsigned(whole::of_i32(b)) as u32
 }
 
 fn put_summary(buf: &mut [u8], mode: u8, share: u32, rounds: u16)
@@ -69,8 +68,8 @@ fn put_bound(buf: &mut [u8], tag: u8, component: u16, base: u32, increment: u32)
 }
 
 // The record of component x at the front of buf, and how many bytes it takes: none where x is not served.
-fn put_bound_at(buf: &mut [u8], served: &[u8], bases: &[i64], incs: &[u32], x: u16) -> usize
-    requires { ⌜ Columns (now served) (now bases) (now incs) × Bases (now bases) × (x < length (now served)) × (widthAt (now served) x ≤ length (now buf)) ⌝ }
+fn put_bound_at(buf: &mut [u8], served: &[u8], bases: &[i32], incs: &[u32], x: u16) -> usize
+    requires { ⌜ Columns (now served) (now bases) (now incs) × (x < length (now served)) × (widthAt (now served) x ≤ length (now buf)) ⌝ }
     ensures { λ r. ⌜ (r ≡ widthAt (now (served .entry)) x) × (now (buf .exit) ≡ boundAt boundTag (now (served .entry)) (now (bases .entry)) (now (incs .entry)) x ++ drop r (now (buf .entry))) ⌝ }
 {
     let i = x as usize;
@@ -82,8 +81,8 @@ fn put_bound_at(buf: &mut [u8], served: &[u8], bases: &[i64], incs: &[u32], x: u
 }
 
 // The records of all served components, each into what the ones before it left of buf.
-fn put_bounds(buf: &mut [u8], served: &[u8], bases: &[i64], incs: &[u32])
-    requires { ⌜ Columns (now served) (now bases) (now incs) × Bases (now bases) × (13 * count (marked (now served)) (length (now served)) ≤ length (now buf)) ⌝ }
+fn put_bounds(buf: &mut [u8], served: &[u8], bases: &[i32], incs: &[u32])
+    requires { ⌜ Columns (now served) (now bases) (now incs) × (13 * count (marked (now served)) (length (now served)) ≤ length (now buf)) ⌝ }
     ensures { λ _. ⌜ now (buf .exit) ≡ boundsOf boundTag (now (served .entry)) (now (bases .entry)) (now (incs .entry)) (length (now (served .entry))) ++ drop (13 * count (marked (now (served .entry))) (length (now (served .entry)))) (now (buf .entry)) ⌝ }
 {
     let mut x: u16 = 0;
@@ -101,10 +100,10 @@ pub fn write(
     share: u32,
     rounds: u16,
     served: &[u8],
-    bases: &[i64],
+    bases: &[i32],
     incs: &[u32],
 )
-    requires { ⌜ Columns (now served) (now bases) (now incs) × Bases (now bases) × (needed (now served) ≤ length (now buf)) ⌝ }
+    requires { ⌜ Columns (now served) (now bases) (now incs) × (needed (now served) ≤ length (now buf)) ⌝ }
     ensures { λ _. ⌜ now (buf .exit) ≡ encode mode share rounds (now (served .entry)) (now (bases .entry)) (now (incs .entry)) ++ drop (needed (now (served .entry))) (now (buf .entry)) ⌝ }
 {
     put_summary(buf, mode, share, rounds);
@@ -168,20 +167,20 @@ fn summary_at(s: &[u8], limit: usize) -> Told
     }
 }
 
-fn bound_ok(p: &[u8], component: u16, base: u64) -> bool
+fn bound_ok(p: &[u8], component: u16, base: u32) -> bool
     requires { ⌜ 10 ≤ length (now p) ⌝ }
     ensures { λ r. ⌜ r ≡ boundOk (now (p .entry)) component base ⌝ }
 {
     if whole::u16_at(p, 0) != component {
         return false;
     }
-    if whole::u32_at(p, 2) as u64 != base {
+    if whole::u32_at(p, 2) != base {
         return false;
     }
     whole::u32_at(p, 6) <= 200000000
 }
 
-fn on_bound(tag: u8, p: &[u8], component: u16, base: u64, at: usize, next: usize) -> Bound
+fn on_bound(tag: u8, p: &[u8], component: u16, base: u32, at: usize, next: usize) -> Bound
     ensures { λ r. ⌜ r ≡ boundTold tag (now (p .entry)) component base at next ⌝ }
 {
     if tag != BOUND_TAG {
@@ -199,7 +198,7 @@ fn on_bound(tag: u8, p: &[u8], component: u16, base: u64, at: usize, next: usize
 }
 
 // The bound of a served component is due at `at`.
-fn bound_at(s: &[u8], component: u16, base: u64, at: usize) -> Bound
+fn bound_at(s: &[u8], component: u16, base: u32, at: usize) -> Bound
     ensures { λ r. ⌜ r ≡ boundFound (now (s .entry)) component base at (recordAt (now (s .entry)) at) ⌝ }
 {
     match records::record_from(s, at) {
@@ -222,13 +221,13 @@ fn bound_at(s: &[u8], component: u16, base: u64, at: usize) -> Bound
 }
 
 // One component: its record is read where it is served, and none is due where it is not.
-fn step(s: &[u8], served: &[u8], bases: &[i64], x: u16, at: usize) -> Bound
+fn step(s: &[u8], served: &[u8], bases: &[i32], x: u16, at: usize) -> Bound
     requires { ⌜ (x < length (now served)) × (length (now bases) ≡ length (now served)) ⌝ }
     ensures { λ r. ⌜ ((pre : List ℕ) → moved (held at pre) r ≡ stepOf (now (s .entry)) (now (served .entry)) (now (bases .entry)) x (held at pre)) ⌝ }
 {
     let i = x as usize;
     if served[i] == 1 {
-        return bound_at(s, x, whole::unsigned(bases[i]), at);
+        return bound_at(s, x, base_of(bases[i]), at);
     }
     Bound::Good {
         next: at,
@@ -237,7 +236,7 @@ fn step(s: &[u8], served: &[u8], bases: &[i64], x: u16, at: usize) -> Bound
 }
 
 // The bounds, from the end of the summary on: what the summary said stands, where each is right and nothing is left over.
-fn judge_bounds(s: &[u8], served: &[u8], bases: &[i64], incs: &mut [u32], told: Told) -> Told
+fn judge_bounds(s: &[u8], served: &[u8], bases: &[i32], incs: &mut [u32], told: Told) -> Told
     requires { ⌜ Columns (now served) (now bases) (now incs) ⌝ }
     ensures { λ r. ⌜ Ended (now (s .entry)) told (boundsAt (now (s .entry)) (now (served .entry)) (now (bases .entry)) 10) r (now (incs .exit)) ⌝ }
 {
@@ -260,7 +259,7 @@ fn judge_bounds(s: &[u8], served: &[u8], bases: &[i64], incs: &mut [u32], told: 
 }
 
 // A result, judged against a netlist. Where it is accepted, incs holds its increments, else no matter what.
-pub fn judge_result(s: &[u8], served: &[u8], bases: &[i64], incs: &mut [u32]) -> Told
+pub fn judge_result(s: &[u8], served: &[u8], bases: &[i32], incs: &mut [u32]) -> Told
     requires { ⌜ Columns (now served) (now bases) (now incs) ⌝ }
     ensures { λ r. ⌜ Heard (now (s .entry)) (now (served .entry)) (now (bases .entry)) r (now (incs .exit)) ⌝ }
 {
@@ -278,7 +277,7 @@ pub fn judge_result(s: &[u8], served: &[u8], bases: &[i64], incs: &mut [u32]) ->
 // ---- what is read back
 
 // Base plus increment, and nothing for an input.
-fn bound_of(mark: u8, base: i64, increment: u32) -> u32
+fn bound_of(mark: u8, base: i32, increment: u32) -> u32
     requires { ⌜ (up base ≤ 65535) × (increment ≤ 200000000) ⌝ }
     ensures { λ r. ⌜ r ≡ boundOn mark (up base) increment ⌝ }
 {
@@ -290,7 +289,7 @@ fn bound_of(mark: u8, base: i64, increment: u32) -> u32
 }
 
 // From base delays and increments alone, whatever the buffer held.
-pub fn bounds_in(bounds: &mut [u32], served: &[u8], bases: &[i64], incs: &[u32])
+pub fn bounds_in(bounds: &mut [u32], served: &[u8], bases: &[i32], incs: &[u32])
     requires { ⌜ Columns (now served) (now bases) (now incs) × Bases (now bases) × Increments (now incs) × (length (now bounds) ≡ length (now served)) ⌝ }
     ensures { λ _. ⌜ now (bounds .exit) ≡ boundsRead (now (served .entry)) (now (bases .entry)) (now (incs .entry)) ⌝ }
 {

@@ -1,19 +1,17 @@
 -- "An increment is final delay less base." (document 01, "Share and rounds"), over lists.
 use mathlib.Core.Path.{_≡_, refl, sym, _∙_}
 use mathlib.Core.List.{List}
-use Prim.Native.Nat.{ℕ, _^_, _<_, _≤_}
-use native.Mathlib.Omega.{arith}
+use Prim.Native.Nat.{ℕ, _<_, _≤_}
 use lib.IntN.{ℤ, _-ℤ_}
 use lib.ListN.{length, getD}
-use Rattle.whole.specs.Whole.{up, whole, diff, apart}
-use Rattle.whole.specs.Range.{Bounded, bounded-more}
+use Rattle.whole.specs.Whole.{up}
 use Rattle.circuit.specs.Netlist.{Netlist, Based}
 use Rattle.circuit.specs.Lists.{at, tabulate}
 use Rattle.circuit.specs.ListLaws.{length-tabulate, getD-tabulate}
 use Rattle.circuit.specs.Budget.{toServe, startIn, finalFrom, increments, budgetOf}
 use Rattle.circuit.specs.Budget as C
 use Rattle.circuit.specs.ClockLaws.{clock}
-use Rattle.circuit.specs.SafeLaws.{Safe, safe-bounded, based-bounded}
+use Rattle.circuit.specs.SafeLaws.{Safe}
 use Rattle.circuit.specs.FinalLaws.{final-done}
 use Rattle.circuit.specs.BudgetLaws.{start-is}
 use Rattle.circuit.specs.OutcomeLaws.{OfMode, budget-says, rounds-most}
@@ -33,13 +31,6 @@ pub rise-is : (f b : List ℤ) (x : ℕ) → x < length b → getD (risesOf f b)
 unfolding risesOf
 rise-is f b x h = getD-tabulate _ (length b) x 0 h
 
--- what the code asks of them
-pub record Raises (b f : List ℤ) : Type 0 where
-  pub same : length f ≡ length b
-  pub bases-in : Bounded (2 ^ 61) b
-  pub finals-in : Bounded (2 ^ 61) f
-  pub least : (x : ℕ) → up (at f x -ℤ at b x) ≤ 200000000
-
 pub rises-are : {n : Netlist} {b : List ℤ} (f : List ℤ) → Based n b → risesOf f b ≡ increments n b f
 unfolding risesOf increments
 rises-are f g = rw (g .all)
@@ -54,16 +45,9 @@ module _ {n : Netlist} {sv : List ℕ} {b : List ℤ} (g : Given n sv b) {m t k 
   final-safe : Safe n f
   final-safe = let c = clock (g .accepted) in rw (a .final e) (final-done c (start-is c (g .based) (said .in-time) m .safe) .safe)
 
-  pub budget-raises : Raises b f
-  budget-raises =
-      let s = safe-bounded (clock (g .accepted)) final-safe in
-      let h = g .based in
-      record {
-        same = final-safe .all ∙ sym (h .all);
-        bases-in = bounded-more (omega arith) (based-bounded h);
-        finals-in = bounded-more (omega arith) s;
-        least = λ x. let u = s .at x in let l = h .least x in omega (whole, diff (at f x) (at b x), apart (at f x -ℤ at b x));
-      }
+  -- there are as many final delays as base delays
+  pub budget-all : length f ≡ length b
+  budget-all = final-safe .all ∙ sym (g .based .all)
 
   -- there is a round for each served component at most
   pub budget-few : k ≤ toServe n

@@ -5,6 +5,7 @@ use mathlib.Core.List.{List}
 use Prim.Native.Nat.{ℕ, zero, suc, _+_, _-_, _/_, _^_, _<_, _≤_}
 use native.Mathlib.Omega.{arith}
 use native.Mathlib.Nat.{two-pow-succ}
+use lib.Dec.{eqb}
 use lib.IntN.{ℤ}
 use lib.ListN.{length}
 use Rattle.whole.specs.Range.{Bounded}
@@ -12,6 +13,7 @@ use Rattle.circuit.specs.Lists.{at}
 use Rattle.circuit.specs.Netlist.{Netlist, parts}
 use Rattle.circuit.specs.Times.{inTime}
 use Rattle.circuit.specs.Share.{lifted, descend, shareOf}
+use Rattle.circuit.specs.Budget.{shareIn}
 use Rattle.circuit.specs.DescentLaws.{length-lifted}
 use Rattle.timing.specs.Ready.{Ready}
 
@@ -28,6 +30,34 @@ pub lifted-ready : {n : Netlist} {sv : List ℕ} {b : List ℤ} {p q : ℕ} → 
 lifted-ready {sv = sv} {b = b} s u h =
     let r = s .ready in
     record { wired = r .wired; times-all = r .times-all; delays-all = length-lifted sv u b ∙ r .delays-all; times-in = r .times-in; delays-in = s .lifts u h }
+
+-- ---- how large a share can be
+
+kept-most : (c : Bool) (t p v : ℕ) → v < cond c (t + p) t + p → v < t + (p + p)
+kept-most true t p v h = omega arith
+kept-most false t p v h = omega arith
+
+-- k bits add less than 2^k
+descend-most : (n : Netlist) (sv : List ℕ) (b : List ℤ) (k t : ℕ) → descend n sv b k t < t + 2 ^ k
+unfolding descend
+descend-most n sv b zero t = omega arith
+descend-most n sv b (suc k) t = rw (two-pow-succ k) (kept-most (inTime n (lifted sv (t + 2 ^ k) b)) t (2 ^ k) _ (descend-most n sv b k _))
+
+or-none : (c : Bool) {x y : ℕ} → x < y → cond c 0 x < y
+or-none true h = omega arith
+or-none false h = h
+
+-- so that base delay and share go into four bytes
+pub share-small : (m : ℕ) (n : Netlist) (b : List ℤ) → shareIn m n b < 2 ^ 28
+unfolding shareIn shareOf
+share-small m n b = or-none (eqb m 0) (descend-most n _ b 28 0)
+
+-- what one component gets of a share
+pub due-most : (c : Bool) (t : ℕ) → cond c t 0 ≤ t
+due-most true t = omega arith
+due-most false t = omega arith
+
+-- ---- the descent
 
 -- k bits are still to be tried, of which `bit` is the first, from t on
 pub record Descending (n : Netlist) (sv : List ℕ) (b : List ℤ) (t bit k : ℕ) : Type 0 where

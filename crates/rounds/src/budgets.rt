@@ -20,10 +20,10 @@ pub enum Outcome {
 fn late_in(
     arr: &mut [i64],
     req: &mut [i64],
-    b: &[i64],
+    b: &[i32],
     served: &[u8],
     kinds: &[u8],
-    times: &[i64],
+    times: &[i32],
     from: &[u16],
     to: &[u16],
 ) -> usize
@@ -37,12 +37,12 @@ fn late_in(
 
 fn share_in(
     mode: u32,
-    d: &mut [i64],
+    d: &mut [i32],
     arr: &mut [i64],
-    b: &[i64],
+    b: &[i32],
     served: &[u8],
     kinds: &[u8],
-    times: &[i64],
+    times: &[i32],
     from: &[u16],
     to: &[u16],
 ) -> u32
@@ -59,12 +59,12 @@ fn share_in(
 // The starting delays of a mode, and its share.
 fn start_in(
     mode: u32,
-    d: &mut [i64],
+    d: &mut [i32],
     arr: &mut [i64],
-    b: &[i64],
+    b: &[i32],
     served: &[u8],
     kinds: &[u8],
-    times: &[i64],
+    times: &[i32],
     from: &[u16],
     to: &[u16],
 ) -> u32
@@ -78,14 +78,14 @@ fn start_in(
 
 pub fn budget_in(
     mode: u32,
-    d: &mut [i64],
+    d: &mut [i32],
     arr: &mut [i64],
     req: &mut [i64],
     seg: &mut [u16],
-    b: &[i64],
+    b: &[i32],
     served: &[u8],
     kinds: &[u8],
-    times: &[i64],
+    times: &[i32],
     from: &[u16],
     to: &[u16],
 ) -> Outcome

@@ -11,12 +11,12 @@ use crate::lifts::lift;
 
 // With t more for each who is served, worked out in d and arr.
 fn fits(
-    d: &mut [i64],
+    d: &mut [i32],
     arr: &mut [i64],
-    base: &[i64],
+    base: &[i32],
     served: &[u8],
     kinds: &[u8],
-    times: &[i64],
+    times: &[i32],
     from: &[u16],
     to: &[u16],
     t: u32,
@@ -30,12 +30,12 @@ fn fits(
 }
 
 fn with_bit(
-    d: &mut [i64],
+    d: &mut [i32],
     arr: &mut [i64],
-    base: &[i64],
+    base: &[i32],
     served: &[u8],
     kinds: &[u8],
-    times: &[i64],
+    times: &[i32],
     from: &[u16],
     to: &[u16],
     t: u32,
@@ -53,12 +53,12 @@ fn with_bit(
 }
 
 pub fn share(
-    d: &mut [i64],
+    d: &mut [i32],
     arr: &mut [i64],
-    base: &[i64],
+    base: &[i32],
     served: &[u8],
     kinds: &[u8],
-    times: &[i64],
+    times: &[i32],
     from: &[u16],
     to: &[u16],
 ) -> u32

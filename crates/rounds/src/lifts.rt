@@ -17,15 +17,15 @@ fn due(m: u8, t: u32) -> u32
     if m == 1 { t } else { 0 }
 }
 
-fn lifted_at(base: &[i64], served: &[u8], t: u32, x: usize) -> i64
-    requires { ⌜ (x < length (now base)) × (length (now served) ≡ length (now base)) × Bounded (2 ^ 29) (now base) ⌝ }
+fn lifted_at(base: &[i32], served: &[u8], t: u32, x: usize) -> i32
+    requires { ⌜ (x < length (now base)) × (length (now served) ≡ length (now base)) × Bounded (2 ^ 29) (now base) × (t < 2 ^ 28) ⌝ }
     ensures { λ r. ⌜ r ≡ at (now (base .entry)) x +ℤ pos (cond (marked (now (served .entry)) x) t 0) ⌝ }
 {
-    whole::add(base[x], whole::of_u32(due(served[x], t)))
+    whole::more(base[x], due(served[x], t))
 }
 
-pub fn lift(d: &mut [i64], base: &[i64], served: &[u8], t: u32)
-    requires { ⌜ (length (now d) ≡ length (now base)) × (length (now served) ≡ length (now base)) × Bounded (2 ^ 29) (now base) ⌝ }
+pub fn lift(d: &mut [i32], base: &[i32], served: &[u8], t: u32)
+    requires { ⌜ (length (now d) ≡ length (now base)) × (length (now served) ≡ length (now base)) × Bounded (2 ^ 29) (now base) × (t < 2 ^ 28) ⌝ }
     ensures { λ _. ⌜ now (d .exit) ≡ lifted (now (served .entry)) t (now (base .entry)) ⌝ }
 {
     let mut i = 0;

@@ -10,13 +10,13 @@ use crate::turns::round;
 
 // Round after round until no served component has positive slack: how many. Each round leaves fewer that have it, so that no limit is needed.
 pub fn run(
-    d: &mut [i64],
+    d: &mut [i32],
     arr: &mut [i64],
     req: &mut [i64],
     seg: &mut [u16],
     served: &[u8],
     kinds: &[u8],
-    times: &[i64],
+    times: &[i32],
     from: &[u16],
     to: &[u16],
 ) -> usize

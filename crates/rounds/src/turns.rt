@@ -10,8 +10,8 @@ fn choose_in(
     req: &mut [i64],
     served: &[u8],
     kinds: &[u8],
-    times: &[i64],
-    d: &[i64],
+    times: &[i32],
+    d: &[i32],
     from: &[u16],
     to: &[u16],
 ) -> usize
@@ -25,13 +25,13 @@ fn choose_in(
 
 // Whether there was a round to do.
 pub fn round(
-    d: &mut [i64],
+    d: &mut [i32],
     arr: &mut [i64],
     req: &mut [i64],
     seg: &mut [u16],
     served: &[u8],
     kinds: &[u8],
-    times: &[i64],
+    times: &[i32],
     from: &[u16],
     to: &[u16],
 ) -> bool

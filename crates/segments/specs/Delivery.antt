@@ -12,7 +12,7 @@ use lib.IntN.{ℤ, pos, _+ℤ_}
 use lib.ListN.{length, getD, set, drop, length-set, length-drop, drop-of-length-le}
 use lib.Seq.{drop-cons}
 use Rattle.whole.specs.Whole.{sum}
-use Rattle.whole.specs.Range.{Bounded, bounded-set, bounded-more}
+use Rattle.whole.specs.Range.{Within, Bounded, bounded-set, bounded-more}
 use Rattle.circuit.specs.Lists.{at}
 use Rattle.circuit.specs.Rounds.{ahead, behind, segmentOf, deliver}
 use Rattle.segments.specs.Lent.{Inside}
@@ -47,6 +47,14 @@ giving-next {xs} {s₀} {d₀} {d} {d′} {i} {s} o h q e =
       small = bounded-set x (bounded-more (omega arith) (o .small)) (omega (arith, sum (at d x) (pos (s / k))));
       rest = rw (drop-cons xs i 0 h, ← one x (drop (suc i) xs) s k d (omega (arith, length-drop (suc i) xs)), ← add-one i) at (o .rest);
     })
+
+-- what one gets, on what it has, goes into four bytes
+pub giving-fits : {xs : List ℕ} {s₀ : ℕ} {d₀ d : List ℤ} {i s : ℕ} → Giving xs s₀ d₀ d i s → s₀ ≤ 2 ^ 30 → (x k : ℕ) → Within (2 ^ 31 - 1) (at d x +ℤ pos (s / k))
+giving-fits {d = d} {s = s} o h x k =
+    let l = div-le-self s k in
+    let f = o .less in
+    let b = o .small .at x in
+    omega (arith, sum (at d x) (pos (s / k)))
 
 pub giving-ends : {xs : List ℕ} {s₀ : ℕ} {d₀ d : List ℤ} {i s : ℕ} → Giving xs s₀ d₀ d i s → length xs ≤ i → d ≡ deliver s₀ xs d₀
 unfolding deliver

@@ -19,17 +19,16 @@ fn portion(left: u32, n: usize) -> u32
     (left as usize / n) as u32
 }
 
-// 2^33 is room for a delay that has been given a whole u32.
-fn give(d: &mut [i64], x: u16, g: u32)
-    requires { ⌜ (x < length (now d)) × Within (2 ^ 33) (at (now d) x) ⌝ }
+fn give(d: &mut [i32], x: u16, g: u32)
+    requires { ⌜ (x < length (now d)) × Within (2 ^ 31 - 1) (at (now d) x +ℤ pos g) ⌝ }
     ensures { λ _. ⌜ now (d .exit) ≡ set (now (d .entry)) x (at (now (d .entry)) x +ℤ pos g) ⌝ }
 {
-    d[x as usize] = whole::add(d[x as usize], whole::of_u32(g));
+    d[x as usize] = whole::more(d[x as usize], g);
 }
 
 // Of what is left, its portion to x, where n are still to serve: what is left then.
-fn serve(d: &mut [i64], x: u16, left: u32, n: usize) -> u32
-    requires { ⌜ (x < length (now d)) × Within (2 ^ 33) (at (now d) x) × (0 < n) ⌝ }
+fn serve(d: &mut [i32], x: u16, left: u32, n: usize) -> u32
+    requires { ⌜ (x < length (now d)) × Within (2 ^ 31 - 1) (at (now d) x +ℤ pos (left / n)) × (0 < n) ⌝ }
     ensures { λ r. ⌜ (r ≡ left - left / n) × (now (d .exit) ≡ set (now (d .entry)) x (at (now (d .entry)) x +ℤ pos (left / n))) ⌝ }
 {
     let g = portion(left, n);
@@ -37,8 +36,9 @@ fn serve(d: &mut [i64], x: u16, left: u32, n: usize) -> u32
     left - g
 }
 
-pub fn deliver(d: &mut [i64], seg: &[u16], s: u32)
-    requires { ⌜ Inside (now seg) (length (now d)) × Bounded (2 ^ 29) (now d) ⌝ }
+// Where a delay gets all of s, the sum still has room in four bytes.
+pub fn deliver(d: &mut [i32], seg: &[u16], s: u32)
+    requires { ⌜ Inside (now seg) (length (now d)) × Bounded (2 ^ 29) (now d) × (s ≤ 2 ^ 30) ⌝ }
     ensures { λ _. ⌜ now (d .exit) ≡ deliver s (now (seg .entry)) (now (d .entry)) ⌝ }
 {
     let mut left = s;
@@ -58,7 +58,7 @@ fn amount_at(arr: &[i64], req: &[i64], x: usize) -> u32
 }
 
 pub fn spend_at(
-    d: &mut [i64],
+    d: &mut [i32],
     seg: &mut [u16],
     from: &[u16],
     to: &[u16],

@@ -14,14 +14,14 @@ ghost use Rattle.segments.specs.Lent.{Laid, Loaded};
 use crate::index::wide;
 
 // y is x and e.
-fn is_sum(y: i64, x: i64, e: i64) -> bool
+fn is_sum(y: i64, x: i64, e: i32) -> bool
     requires { ⌜ Within (2 ^ 61) x × Within (2 ^ 29) e ⌝ }
     ensures { λ r. ⌜ r ≡ eqZ y (x +ℤ e) ⌝ }
 {
-    whole::same(y, whole::add(x, e))
+    whole::same(y, whole::add(x, whole::of_i32(e)))
 }
 
-fn is_level(d: &[i64], z: &[i64], f: u16, t: u16) -> bool
+fn is_level(d: &[i32], z: &[i64], f: u16, t: u16) -> bool
     requires { ⌜ (f < length (now d)) × (t < length (now d)) × (length (now z) ≡ length (now d)) × Bounded (2 ^ 61) (now z) × Bounded (2 ^ 29) (now d) ⌝ }
     ensures { λ r. ⌜ r ≡ level (now (d .entry)) (now (z .entry)) f t ⌝ }
 {
@@ -29,7 +29,7 @@ fn is_level(d: &[i64], z: &[i64], f: u16, t: u16) -> bool
 }
 
 // Both equalities hold.
-fn is_taut(d: &[i64], arr: &[i64], req: &[i64], f: u16, t: u16) -> bool
+fn is_taut(d: &[i32], arr: &[i64], req: &[i64], f: u16, t: u16) -> bool
     requires { ⌜ Gauged (now arr) (now req) × (length (now arr) ≡ length (now d)) × Bounded (2 ^ 29) (now d) × (f < length (now d)) × (t < length (now d)) ⌝ }
     ensures { λ r. ⌜ r ≡ level (now (d .entry)) (now (req .entry)) f t && level (now (d .entry)) (now (arr .entry)) f t ⌝ }
 {
@@ -43,7 +43,7 @@ fn is_taut(d: &[i64], arr: &[i64], req: &[i64], f: u16, t: u16) -> bool
 fn leads_on(
     from: &[u16],
     to: &[u16],
-    d: &[i64],
+    d: &[i32],
     arr: &[i64],
     req: &[i64],
     x: usize,
@@ -70,7 +70,7 @@ fn feeds_in(
     from: &[u16],
     to: &[u16],
     served: &[u8],
-    d: &[i64],
+    d: &[i32],
     arr: &[i64],
     req: &[i64],
     x: usize,
@@ -90,7 +90,7 @@ fn feeds_in(
     }
 }
 
-pub fn next(from: &[u16], to: &[u16], d: &[i64], arr: &[i64], req: &[i64], x: usize) -> usize
+pub fn next(from: &[u16], to: &[u16], d: &[i32], arr: &[i64], req: &[i64], x: usize) -> usize
     requires { ⌜ Laid (now from) (now to) (now d) (now arr) (now req) ⌝ }
     ensures { λ r. ⌜ r ≡ after (now (from .entry)) (now (to .entry)) (now (d .entry)) (now (arr .entry)) (now (req .entry)) x ⌝ }
 {
@@ -108,7 +108,7 @@ pub fn previous(
     from: &[u16],
     to: &[u16],
     served: &[u8],
-    d: &[i64],
+    d: &[i32],
     arr: &[i64],
     req: &[i64],
     x: usize,

@@ -1,5 +1,6 @@
 // Arrivals, required times, slacks and in time, over slices that the caller lends. A sweep goes through the connections once, as they stand or
-// the last first; nothing here asks that a connection goes to a higher number. No sum overflows, by the bounds of `Ready` alone.
+// the last first; nothing here asks that a connection goes to a higher number. Delays and times of a file stand in four bytes each, and sums
+// of them are taken in eight: none overflows, by the bounds of `Ready` alone.
 ghost use mathlib.Core.Path.{_≡_};
 ghost use mathlib.Core.Bool.{cond, _&&_};
 ghost use mathlib.Core.List.{reverse};
@@ -27,23 +28,23 @@ const OUTPUT: u8 = 2;
 // ---- one connection
 
 // The later of x, and y after a delay.
-fn later(x: i64, y: i64, d: i64) -> i64
+fn later(x: i64, y: i64, d: i32) -> i64
     requires { ⌜ Within (2 ^ 61) y × Within (2 ^ 29) d ⌝ }
     ensures { λ r. ⌜ r ≡ maxZ x (y +ℤ d) ⌝ }
 {
-    whole::greater(x, whole::add(y, d))
+    whole::greater(x, whole::add(y, whole::of_i32(d)))
 }
 
 // The earlier of x, and y less a delay.
-fn earlier(x: i64, y: i64, d: i64) -> i64
+fn earlier(x: i64, y: i64, d: i32) -> i64
     requires { ⌜ Within (2 ^ 61) y × Within (2 ^ 29) d ⌝ }
     ensures { λ r. ⌜ r ≡ minZ x (y -ℤ d) ⌝ }
 {
-    whole::lesser(x, whole::sub(y, d))
+    whole::lesser(x, whole::sub(y, whole::of_i32(d)))
 }
 
 // What a connection from f to t makes of the arrival at t.
-fn raise(arr: &mut [i64], d: &[i64], f: u16, t: u16)
+fn raise(arr: &mut [i64], d: &[i32], f: u16, t: u16)
     requires { ⌜ (f < length (now arr)) × (t < length (now arr)) × (length (now d) ≡ length (now arr)) ⌝ }
     requires { ⌜ Bounded (2 ^ 61) (now arr) × Bounded (2 ^ 29) (now d) ⌝ }
     ensures { λ _. ⌜ now (arr .exit) ≡ set (now (arr .entry)) t (maxZ (at (now (arr .entry)) t) (at (now (arr .entry)) f +ℤ at (now (d .entry)) t)) ⌝ }
@@ -52,7 +53,7 @@ fn raise(arr: &mut [i64], d: &[i64], f: u16, t: u16)
 }
 
 // What it makes of the required time at f.
-fn lower(req: &mut [i64], d: &[i64], f: u16, t: u16)
+fn lower(req: &mut [i64], d: &[i32], f: u16, t: u16)
     requires { ⌜ (f < length (now req)) × (t < length (now req)) × (length (now d) ≡ length (now req)) ⌝ }
     requires { ⌜ Bounded (2 ^ 61) (now req) × Bounded (2 ^ 29) (now d) ⌝ }
     ensures { λ _. ⌜ now (req .exit) ≡ set (now (req .entry)) f (minZ (at (now (req .entry)) f) (at (now (req .entry)) t -ℤ at (now (d .entry)) t)) ⌝ }
@@ -61,7 +62,7 @@ fn lower(req: &mut [i64], d: &[i64], f: u16, t: u16)
 }
 
 // Connection j, forward.
-fn raise_at(arr: &mut [i64], d: &[i64], from: &[u16], to: &[u16], j: usize)
+fn raise_at(arr: &mut [i64], d: &[i32], from: &[u16], to: &[u16], j: usize)
     requires { ⌜ Wired (now from) (now to) (length (now arr)) × (length (now d) ≡ length (now arr)) × (j < length (now from)) ⌝ }
     requires { ⌜ Bounded (2 ^ 61) (now arr) × Bounded (2 ^ 29) (now d) ⌝ }
     ensures { λ _. ⌜ now (arr .exit) ≡ step (forward (now (from .entry)) (now (to .entry)) (now (d .entry))) j (now (arr .entry)) ⌝ }
@@ -70,7 +71,7 @@ fn raise_at(arr: &mut [i64], d: &[i64], from: &[u16], to: &[u16], j: usize)
 }
 
 // Connection j, backward.
-fn lower_at(req: &mut [i64], d: &[i64], from: &[u16], to: &[u16], j: usize)
+fn lower_at(req: &mut [i64], d: &[i32], from: &[u16], to: &[u16], j: usize)
     requires { ⌜ Wired (now from) (now to) (length (now req)) × (length (now d) ≡ length (now req)) × (j < length (now from)) ⌝ }
     requires { ⌜ Bounded (2 ^ 61) (now req) × Bounded (2 ^ 29) (now d) ⌝ }
     ensures { λ _. ⌜ now (req .exit) ≡ step (backward (now (from .entry)) (now (to .entry)) (now (d .entry))) j (now (req .entry)) ⌝ }
@@ -81,7 +82,7 @@ fn lower_at(req: &mut [i64], d: &[i64], from: &[u16], to: &[u16], j: usize)
 // ---- the sweeps
 
 // All connections, the first first.
-fn raise_all(arr: &mut [i64], d: &[i64], from: &[u16], to: &[u16])
+fn raise_all(arr: &mut [i64], d: &[i32], from: &[u16], to: &[u16])
     requires { ⌜ Wired (now from) (now to) (length (now arr)) × (length (now d) ≡ length (now arr)) ⌝ }
     requires { ⌜ Bounded (2 ^ 60) (now arr) × Bounded (2 ^ 29) (now d) ⌝ }
     ensures { λ _. ⌜ now (arr .exit) ≡ sweep (forward (now (from .entry)) (now (to .entry)) (now (d .entry))) (upFrom 0 (length (now (from .entry)))) (now (arr .entry)) ⌝ }
@@ -94,7 +95,7 @@ fn raise_all(arr: &mut [i64], d: &[i64], from: &[u16], to: &[u16])
 }
 
 // All connections, the last first.
-fn lower_all(req: &mut [i64], d: &[i64], from: &[u16], to: &[u16])
+fn lower_all(req: &mut [i64], d: &[i32], from: &[u16], to: &[u16])
     requires { ⌜ Wired (now from) (now to) (length (now req)) × (length (now d) ≡ length (now req)) ⌝ }
     requires { ⌜ Bounded (2 ^ 60) (now req) × Bounded (2 ^ 29) (now d) ⌝ }
     ensures { λ _. ⌜ now (req .exit) ≡ sweep (backward (now (from .entry)) (now (to .entry)) (now (d .entry))) (reverse (upFrom 0 (length (now (from .entry))))) (now (req .entry)) ⌝ }
@@ -107,14 +108,14 @@ fn lower_all(req: &mut [i64], d: &[i64], from: &[u16], to: &[u16])
 }
 
 // A component's time where it is of the kind k, else z.
-fn anchored(kind: u8, time: i64, k: u8, z: i64) -> i64
+fn anchored(kind: u8, time: i32, k: u8, z: i64) -> i64
     ensures { λ r. ⌜ r ≡ cond (eqb kind k) time z ⌝ }
 {
-    if kind == k { time } else { z }
+    if kind == k { whole::of_i32(time) } else { z }
 }
 
 // What a sweep starts from.
-fn anchor_all(out: &mut [i64], kinds: &[u8], times: &[i64], k: u8, z: i64)
+fn anchor_all(out: &mut [i64], kinds: &[u8], times: &[i32], k: u8, z: i64)
     requires { ⌜ (length (now kinds) ≡ length (now out)) × (length (now times) ≡ length (now out)) ⌝ }
     ensures { λ _. ⌜ now (out .exit) ≡ tabulate (anchor (now (kinds .entry)) (now (times .entry)) k z) (length (now (out .entry))) ⌝ }
 {
@@ -130,8 +131,8 @@ fn anchor_all(out: &mut [i64], kinds: &[u8], times: &[i64], k: u8, z: i64)
 pub fn arrivals_in(
     arr: &mut [i64],
     kinds: &[u8],
-    times: &[i64],
-    d: &[i64],
+    times: &[i32],
+    d: &[i32],
     from: &[u16],
     to: &[u16],
 )
@@ -146,8 +147,8 @@ pub fn arrivals_in(
 pub fn required_in(
     req: &mut [i64],
     kinds: &[u8],
-    times: &[i64],
-    d: &[i64],
+    times: &[i32],
+    d: &[i32],
     from: &[u16],
     to: &[u16],
 )
@@ -192,15 +193,15 @@ fn output_less(kind: u8, x: i64, y: i64) -> bool
 }
 
 // An output that signals reach after its time.
-fn overdue_at(kinds: &[u8], times: &[i64], arr: &[i64], x: usize) -> bool
+fn overdue_at(kinds: &[u8], times: &[i32], arr: &[i64], x: usize) -> bool
     requires { ⌜ (x < length (now kinds)) × (length (now times) ≡ length (now kinds)) × (length (now arr) ≡ length (now kinds)) ⌝ }
     ensures { λ r. ⌜ r ≡ overdue (now (kinds .entry)) (now (times .entry)) (now (arr .entry)) x ⌝ }
 {
-    output_less(kinds[x], times[x], arr[x])
+    output_less(kinds[x], whole::of_i32(times[x]), arr[x])
 }
 
 // The lowest such output, or the component count where there is none.
-fn lowest_overdue(kinds: &[u8], times: &[i64], arr: &[i64]) -> usize
+fn lowest_overdue(kinds: &[u8], times: &[i32], arr: &[i64]) -> usize
     requires { ⌜ (length (now times) ≡ length (now kinds)) × (length (now arr) ≡ length (now kinds)) ⌝ }
     ensures { λ r. ⌜ r ≡ lowest (overdue (now (kinds .entry)) (now (times .entry)) (now (arr .entry))) (length (now (kinds .entry))) ⌝ }
 {
@@ -218,8 +219,8 @@ fn lowest_overdue(kinds: &[u8], times: &[i64], arr: &[i64]) -> usize
 pub fn in_time(
     arr: &mut [i64],
     kinds: &[u8],
-    times: &[i64],
-    d: &[i64],
+    times: &[i32],
+    d: &[i32],
     from: &[u16],
     to: &[u16],
 ) -> bool

@@ -2,12 +2,13 @@ use Prim.Native.Nat.{ℕ}
 use borrow.Author.Needs.{needs}
 use lib.IntN.{ℤ}
 use mathlib.Core.Bool.{Bool}
-use mathlib.Core.Path.{_∙_, _≡_}
+use mathlib.Core.Path.{_∙_, _≡_, sym}
 use mir.Syntax.{w32}
 use mir.ValLaws.{toZ-ofZ}
 use native.Mathlib.Omega.{arith}
 use Rattle.netlists.specs.HeldLaws.{component-full, component-goes, component-late, component-outside, component-sized}
 use Rattle.netlists.specs.Judge.{fieldsOk}
+use Rattle.netlists.specs.RuleLaws.{fields-is}
 use Rattle.whole.specs.Range.{via}
 use Rattle.netlists.proofs.on_component.Statement.{statement}
 use Rattle.netlists.proofs.on_component.Tie as tie
@@ -35,7 +36,9 @@ fields-ok-requires : tie.Need-fields-ok-requires
 fields-ok-requires c κs = search needs
 
 put-component-requires : tie.Need-put-component-requires
-put-component-requires c κs = search needs
+put-component-requires c κs =
+    let f = fields-is _ _ _ (sym (c .before .before .before .before .fields-ok .ensures) ∙ c .before .before .before .if4 .taken) in
+    (search needs, search needs, search needs, f .most)
 
 add-t26 : tie.Need-add-t26
 add-t26 c = search needs

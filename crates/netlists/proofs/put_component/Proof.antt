@@ -4,7 +4,8 @@ use lib.ListN.{set}
 use mathlib.Core.Path.{ap, _∙_, refl}
 use mir.Syntax.{w32}
 use mir.ValLaws.{toZ-ofZ}
-use Rattle.whole.specs.Range.{via}
+use native.Mathlib.Omega.{arith}
+use Rattle.whole.specs.Range.{via, via32}
 use Rattle.netlists.proofs.put_component.Statement.{statement}
 use Rattle.netlists.proofs.put_component.Tie as tie
 
@@ -14,20 +15,20 @@ slice-write-kinds c = search needs
 of-u32-requires : tie.Need-of-u32-requires
 of-u32-requires c κs = search needs
 
-mul-times : tie.Need-mul-times
-mul-times c = search needs
+narrow-requires : tie.Need-narrow-requires
+narrow-requires c κs = simp (via (c .of-u32 .ok) (c .of-u32 .ensures)) (omega arith)
 
-slice-set-from-times : tie.Need-slice-set-from-times
-slice-set-from-times c = search needs
+mul-t10 : tie.Need-mul-t10
+mul-t10 c = search needs
 
-of-i32-requires : tie.Need-of-i32-requires
-of-i32-requires c κs = search needs
+slice-set-from-bases : tie.Need-slice-set-from-bases
+slice-set-from-bases c = search needs
 
-mul-t8 : tie.Need-mul-t8
-mul-t8 c = search needs
+mul-time : tie.Need-mul-time
+mul-time c = search needs
 
-slice-set-from-times-2 : tie.Need-slice-set-from-times-2
-slice-set-from-times-2 c = search needs
+slice-set-from-time : tie.Need-slice-set-from-time
+slice-set-from-time c = search needs
 
 same-length : tie.Need-same-length
 same-length c = search needs
@@ -39,7 +40,10 @@ same-length-3 : tie.Need-same-length-3
 same-length-3 c = search needs
 
 returns : tie.Need-returns
-returns c = (refl, (rw (via (c .before .before .of-u32 .ok) (c .before .before .of-u32 .ensures)) refl, ap (set (now (c .before .before .before .before .args .times)) (c .before .before .before .before .args .i)) (via (c .of-i32 .ok) (c .of-i32 .ensures ∙ toZ-ofZ w32 _ (search needs)))))
+returns c =
+    let a = c .before .before .before .before in
+    let b = c .before .of-u32 in
+    (refl, (rw (via32 (c .narrow .ok) (c .narrow .ensures ∙ via (b .ok) (b .ensures))) refl, ap (set (now (a .args .times)) (a .args .i)) (toZ-ofZ w32 _ (search needs))))
 
 pub put-component-spec : {M : Type 1} → statement M
 put-component-spec =
@@ -47,11 +51,11 @@ put-component-spec =
     (tie.spec
     slice-write-kinds
     of-u32-requires
-    mul-times
-    slice-set-from-times
-    of-i32-requires
-    mul-t8
-    slice-set-from-times-2
+    narrow-requires
+    mul-t10
+    slice-set-from-bases
+    mul-time
+    slice-set-from-time
     same-length
     same-length-2
     same-length-3

@@ -7,7 +7,7 @@ use Rattle.results.proofs.bound_of.Statement.{statement}
 use Rattle.results.proofs.bound_of.Tie as tie
 
 base-of-requires : tie.Need-base-of-requires
-base-of-requires c κs = simp (toZ-ofZ, c .before .fits .base) (c .before .pre .0)
+base-of-requires c κs = search needs
 
 add-result : tie.Need-add-result
 add-result c = let e = simp (toZ-ofZ, c .before .before .fits .base) at (c .base-of .ensures) in search needs

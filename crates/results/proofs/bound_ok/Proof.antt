@@ -16,9 +16,6 @@ returns c = rw (← c .before .u16-at .ensures, ne-eqb (c .before .u16-at .resul
 u32-at-requires : tie.Need-u32-at-requires
 u32-at-requires c κs = search needs
 
-cast-if2 : tie.Need-cast-if2
-cast-if2 c = search needs
-
 returns-2 : tie.Need-returns-2
 unfolding boundOk
 returns-2 c =
@@ -45,7 +42,6 @@ bound-ok-spec =
     u16-at-requires
     returns
     u32-at-requires
-    cast-if2
     returns-2
     u32-at-requires-2
     returns-3)

@@ -3,7 +3,7 @@ use Rattle.circuit.specs.Demand.{bounds}
 use Rattle.results.specs.Bounds.{length-read, read-at}
 use Rattle.results.specs.Result.{boundsRead}
 use Rattle.whole.specs.Fill.{Filling, filling-ends, filling-next, filling-starts}
-use Rattle.whole.specs.Range.{back}
+use Rattle.whole.specs.Range.{back32}
 use borrow.Author.Needs.{needs}
 use lib.ListN.{length}
 use mathlib.Core.Path.{_∙_, sym}
@@ -36,7 +36,7 @@ shared-slice-read-bound-of-2 : tie.Need-shared-slice-read-bound-of-2 Inv-loop μ
 shared-slice-read-bound-of-2 c = search needs
 
 bound-of-requires : tie.Need-bound-of-requires Inv-loop μ-loop
-bound-of-requires c κs = (simp (back, c .before .bound-of-arg .given) (c .before .before .before .before .before .before .before .before .pre .1 .most _), c .before .before .before .before .before .before .before .before .pre .2 .most _)
+bound-of-requires c κs = (simp (back32, c .before .bound-of-arg .given) (c .before .before .before .before .before .before .before .before .pre .1 .most _), c .before .before .before .before .before .before .before .before .pre .2 .most _)
 
 mul-bounds : tie.Need-mul-bounds Inv-loop μ-loop
 mul-bounds c = search needs
@@ -51,7 +51,7 @@ loop-less : tie.Need-loop-less Inv-loop μ-loop
 loop-less c = search needs
 
 loop-again : tie.Need-loop-again Inv-loop μ-loop
-loop-again c = (search needs, filling-next 0 (c .before .before .before .before .before .loop .inv .1) (rw length-read (search needs)) (c .bound-of .ensures ∙ simp (back, c .before .before .bound-of-arg .given) (sym (read-at _ _ _ _ (search needs)))))
+loop-again c = (search needs, filling-next 0 (c .before .before .before .before .before .loop .inv .1) (rw length-read (search needs)) (c .bound-of .ensures ∙ simp (back32, c .before .before .bound-of-arg .given) (sym (read-at _ _ _ _ (search needs)))))
 
 same-length : tie.Need-same-length Inv-loop μ-loop
 same-length c = search needs

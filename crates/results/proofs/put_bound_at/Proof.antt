@@ -1,4 +1,4 @@
-use Rattle.whole.specs.Range.{back}
+use Rattle.whole.specs.Range.{back32}
 use borrow.Author.Needs.{needs}
 use borrow.Author.Tests.{eq-eqb, ne-eqb}
 use mathlib.Core.Path.{_∙_, refl}
@@ -15,7 +15,7 @@ shared-slice-copy-out-base-of : tie.Need-shared-slice-copy-out-base-of
 shared-slice-copy-out-base-of c = search needs
 
 base-of-requires : tie.Need-base-of-requires
-base-of-requires c κs = simp (back, c .base-of-arg .given) (c .before .before .before .before .before .before .before .pre .1 .most _)
+base-of-requires c κs = search needs
 
 mul-put-bound : tie.Need-mul-put-bound
 mul-put-bound c = search needs
@@ -24,7 +24,7 @@ shared-slice-read-put-bound : tie.Need-shared-slice-read-put-bound
 shared-slice-read-put-bound c = search needs
 
 put-bound-requires : tie.Need-put-bound-requires
-put-bound-requires c κs = rw (eq-eqb _ _ (c .before .before .before .before .if1 .taken)) at (c .before .before .before .before .before .before .before .before .before .pre .3)
+put-bound-requires c κs = rw (eq-eqb _ _ (c .before .before .before .before .if1 .taken)) at (c .before .before .before .before .before .before .before .before .before .pre .2)
 
 same-length : tie.Need-same-length
 same-length c = search needs
@@ -32,7 +32,7 @@ same-length c = search needs
 returns : tie.Need-returns
 returns c =
     rw (eq-eqb _ _ (c .before .before .before .before .before .before .before .if1 .taken))
-    (refl, c .before .before .put-bound .ensures ∙ rw (c .before .before .before .before .base-of .ensures) (simp (back, c .before .before .before .before .before .base-of-arg .given)))
+    (refl, c .before .before .put-bound .ensures ∙ rw (c .before .before .before .before .base-of .ensures) (simp (back32, c .before .before .before .before .before .base-of-arg .given)))
 
 returns-2 : tie.Need-returns-2
 returns-2 c = rw (ne-eqb _ _ (c .if1 .left)) (refl, refl)

@@ -20,21 +20,21 @@ cast-loop : tie.Need-cast-loop Inv-loop μ-loop
 cast-loop c = search needs
 
 sub-put-bound-at : tie.Need-sub-put-bound-at Inv-loop μ-loop
-sub-put-bound-at c = omega (arith, bounding-room (c .before .loop .inv .2) (omega arith) (c .before .before .before .before .before .pre .2))
+sub-put-bound-at c = omega (arith, bounding-room (c .before .loop .inv .2) (omega arith) (c .before .before .before .before .before .pre .1))
 
 part-put-bound-at-start : tie.Need-part-put-bound-at-start Inv-loop μ-loop
-part-put-bound-at-start c = omega (arith, bounding-room (c .before .loop .inv .2) (omega arith) (c .before .before .before .before .before .pre .2))
+part-put-bound-at-start c = omega (arith, bounding-room (c .before .loop .inv .2) (omega arith) (c .before .before .before .before .before .pre .1))
 
 part-put-bound-at-end : tie.Need-part-put-bound-at-end Inv-loop μ-loop
 part-put-bound-at-end c = search needs
 
 put-bound-at-requires : tie.Need-put-bound-at-requires Inv-loop μ-loop
 put-bound-at-requires c κs =
-    let room = bounding-room (c .before .before .loop .inv .2) (omega arith) (c .before .before .before .before .before .before .pre .2) in
-    (c .before .before .before .before .before .before .pre .0, c .before .before .before .before .before .before .pre .1, search needs, simp (length-take, length-drop) (omega arith))
+    let room = bounding-room (c .before .before .loop .inv .2) (omega arith) (c .before .before .before .before .before .before .pre .1) in
+    (c .before .before .before .before .before .before .pre .0, search needs, simp (length-take, length-drop) (omega arith))
 
 add-at : tie.Need-add-at Inv-loop μ-loop
-add-at c = omega (arith, bounding-room (c .before .before .before .before .before .loop .inv .2) (omega arith) (c .before .before .before .before .before .before .before .before .before .pre .2))
+add-at c = omega (arith, bounding-room (c .before .before .before .before .before .loop .inv .2) (omega arith) (c .before .before .before .before .before .before .before .before .before .pre .1))
 
 add-x : tie.Need-add-x Inv-loop μ-loop
 add-x c = search needs

@@ -1,7 +1,7 @@
 use Prim.Native.Nat.{_-_, _≤_}
 use Rattle.circuit.specs.Times.{anchor}
 use Rattle.timing.specs.Fill.{Filling, filling-ends, filling-next, filling-starts}
-use Rattle.whole.specs.Range.{back, via}
+use Rattle.whole.specs.Range.{back32, via}
 use borrow.Author.Needs.{needs}
 use lib.ListN.{length}
 use mathlib.Core.Path.{_∙_}
@@ -49,7 +49,7 @@ loop-again : tie.Need-loop-again Inv-loop μ-loop
 unfolding anchor
 loop-again c =
     let l = c .before .before .before .before .loop .inv .1 in
-    (search needs, filling-next _ l (search needs) (via (c .anchored .ok) (c .anchored .ensures ∙ simp (back, c .before .anchored-arg .given))))
+    (search needs, filling-next _ l (search needs) (via (c .anchored .ok) (c .anchored .ensures ∙ simp (back32, c .before .anchored-arg .given))))
 
 same-length : tie.Need-same-length Inv-loop μ-loop
 same-length c = search needs

@@ -1,4 +1,4 @@
-use Rattle.whole.specs.Range.{back, via}
+use Rattle.whole.specs.Range.{back, back32, via}
 use borrow.Author.Needs.{needs}
 use Rattle.timing.proofs.lower.Statement.{statement}
 use Rattle.timing.proofs.lower.Tie as tie
@@ -24,7 +24,7 @@ shared-slice-copy-out-earlier c = search needs
 earlier-requires : tie.Need-earlier-requires
 earlier-requires c κs =
     let p = c .before .before .before .pre .1 in
-    simp (back, c .earlier-arg3 .given, c .before .earlier-arg2 .given) (p .0 .at _, p .1 .at _)
+    simp (back, back32, c .earlier-arg3 .given, c .before .earlier-arg2 .given) (p .0 .at _, p .1 .at _)
 
 mul-t19 : tie.Need-mul-t19
 mul-t19 c = search needs
@@ -38,7 +38,7 @@ same-length c = search needs
 returns : tie.Need-returns
 returns c =
     rw (via (c .earlier .ok) (c .earlier .ensures))
-    (simp (back, c .before .earlier-arg3 .given, c .before .before .earlier-arg2 .given, c .before .before .before .earlier-arg .given))
+    (simp (back, back32, c .before .earlier-arg3 .given, c .before .before .earlier-arg2 .given, c .before .before .before .earlier-arg .given))
 
 pub lower-spec : {M : Type 1} → statement M
 lower-spec =

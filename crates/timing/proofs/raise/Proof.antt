@@ -1,4 +1,4 @@
-use Rattle.whole.specs.Range.{back, via}
+use Rattle.whole.specs.Range.{back, back32, via}
 use borrow.Author.Needs.{needs}
 use Rattle.timing.proofs.raise.Statement.{statement}
 use Rattle.timing.proofs.raise.Tie as tie
@@ -24,7 +24,7 @@ shared-slice-copy-out-later c = search needs
 later-requires : tie.Need-later-requires
 later-requires c κs =
     let p = c .before .before .before .pre .1 in
-    simp (back, c .later-arg3 .given, c .before .later-arg2 .given) (p .0 .at _, p .1 .at _)
+    simp (back, back32, c .later-arg3 .given, c .before .later-arg2 .given) (p .0 .at _, p .1 .at _)
 
 mul-t19 : tie.Need-mul-t19
 mul-t19 c = search needs
@@ -38,7 +38,7 @@ same-length c = search needs
 returns : tie.Need-returns
 returns c =
     rw (via (c .later .ok) (c .later .ensures))
-    (simp (back, c .before .later-arg3 .given, c .before .before .later-arg2 .given, c .before .before .before .later-arg .given))
+    (simp (back, back32, c .before .later-arg3 .given, c .before .before .later-arg2 .given, c .before .before .before .later-arg .given))
 
 pub raise-spec : {M : Type 1} → statement M
 raise-spec =

@@ -1,4 +1,5 @@
-use Rattle.hozbantir.specs.Spreading.{back32, Spreading, spreading-starts, spreading-next, spreading-ends}
+use Rattle.whole.specs.Range.{back32}
+use Rattle.hozbantir.specs.Spreading.{Spreading, spreading-starts, spreading-next, spreading-ends}
 use Prim.Native.Nat.{_-_, _≤_}
 use borrow.Author.Needs.{needs}
 use lib.ListN.{length}

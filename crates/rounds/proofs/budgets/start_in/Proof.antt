@@ -1,5 +1,6 @@
 use Rattle.circuit.specs.Budget.{startIn}
 use Rattle.rounds.specs.Budgets.{given-marks, given-ready}
+use Rattle.rounds.specs.Sharing.{share-small}
 use borrow.Author.Needs.{needs}
 use mathlib.Core.Path.{_∙_, refl, sym}
 use Rattle.rounds.proofs.budgets.start_in.Statement.{statement}
@@ -9,7 +10,7 @@ share-in-requires : tie.Need-share-in-requires
 share-in-requires c κs = c .before .before .before .before .before .before .pre
 
 lift-requires : tie.Need-lift-requires
-lift-requires c κs = let p = c .before .before .before .before .before .before .before .before .before .before .pre in let q = given-ready (p .0) in (c .before .before .before .share-in .kept .1 .0 ∙ p .1 ∙ sym (q .delays-all), given-marks (p .0) ∙ sym (q .delays-all), q .delays-in)
+lift-requires c κs = let p = c .before .before .before .before .before .before .before .before .before .before .pre in let q = given-ready (p .0) in (c .before .before .before .share-in .kept .1 .0 ∙ p .1 ∙ sym (q .delays-all), given-marks (p .0) ∙ sym (q .delays-all), q .delays-in, rw (c .before .before .before .share-in .ensures) (share-small _ _ _))
 
 same-length : tie.Need-same-length
 same-length c = search needs

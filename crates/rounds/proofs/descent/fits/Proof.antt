@@ -5,7 +5,7 @@ use Rattle.rounds.proofs.descent.fits.Statement.{statement}
 use Rattle.rounds.proofs.descent.fits.Tie as tie
 
 lift-requires : tie.Need-lift-requires
-lift-requires c κs = let s = c .before .before .before .before .before .pre .0 in let q = s .ready in (s .delays-all ∙ sym (q .delays-all), s .marks-all ∙ sym (q .delays-all), q .delays-in)
+lift-requires c κs = let p = c .before .before .before .before .before .pre in let s = p .0 in let q = s .ready in (s .delays-all ∙ sym (q .delays-all), s .marks-all ∙ sym (q .delays-all), q .delays-in, p .1)
 
 in-time-requires : tie.Need-in-time-requires
 in-time-requires c κs = let s = c .before .before .before .before .before .before .before .before .before .pre .0 in (rw (c .before .before .before .lift .ensures) (lifted-ready s _ (c .before .before .before .before .before .before .before .before .before .pre .1)), s .arrivals-all)

@@ -2,7 +2,7 @@ use Prim.Native.Nat.{_-_, _≤_}
 use Rattle.circuit.specs.DescentLaws.{length-lifted, lifted-at}
 use Rattle.circuit.specs.Share.{lifted}
 use Rattle.whole.specs.Fill.{Filling, filling-ends, filling-next, filling-starts}
-use Rattle.whole.specs.Range.{via}
+use Rattle.whole.specs.Range.{via32}
 use borrow.Author.Needs.{needs}
 use lib.IntN.{pos}
 use lib.ListN.{length}
@@ -38,7 +38,7 @@ loop-less c = search needs
 loop-again : tie.Need-loop-again Inv-loop μ-loop
 loop-again c =
     let a = c .before .before .before .before in
-    (search needs, filling-next (pos 0) (c .before .before .loop .inv .1) (rw length-lifted (search needs)) (via (c .lifted-at .ok) (c .lifted-at .ensures ∙ sym (lifted-at _ _ _ (a .pre .1) (c .before .before .loop .i)))))
+    (search needs, filling-next (pos 0) (c .before .before .loop .inv .1) (rw length-lifted (search needs)) (via32 (c .lifted-at .ok) (c .lifted-at .ensures ∙ sym (lifted-at _ _ _ (a .pre .1) (c .before .before .loop .i)))))
 
 same-length : tie.Need-same-length Inv-loop μ-loop
 same-length c = search needs

@@ -1,15 +1,22 @@
-use Rattle.whole.specs.Range.{back, via}
+use Rattle.whole.specs.Range.{back32, via32}
+use Rattle.whole.specs.Whole.{sum}
+use Rattle.circuit.specs.Lists.{at}
+use Rattle.circuit.specs.Netlist.{marked}
+use Rattle.rounds.specs.Sharing.{due-most}
 use borrow.Author.Needs.{needs}
+use Prim.Native.Nat.{_≤_}
+use denote.Ref.{now}
+use lib.IntN.{pos}
 use mathlib.Core.Path.{_∙_}
 use native.Mathlib.Omega.{arith}
 use Rattle.rounds.proofs.lifts.lifted_at.Statement.{statement}
 use Rattle.rounds.proofs.lifts.lifted_at.Tie as tie
 
-mul-add : tie.Need-mul-add
-mul-add c = search needs
+mul-more : tie.Need-mul-more
+mul-more c = search needs
 
-shared-slice-copy-out-add : tie.Need-shared-slice-copy-out-add
-shared-slice-copy-out-add c = search needs
+shared-slice-copy-out-more : tie.Need-shared-slice-copy-out-more
+shared-slice-copy-out-more c = search needs
 
 shared-slice-read-due : tie.Need-shared-slice-read-due
 shared-slice-read-due c = search needs
@@ -17,23 +24,23 @@ shared-slice-read-due c = search needs
 due-requires : tie.Need-due-requires
 due-requires c κs = search needs
 
-of-u32-requires : tie.Need-of-u32-requires
-of-u32-requires c κs = search needs
-
-add-requires : tie.Need-add-requires
-add-requires c κs = simp (back, c .before .before .before .add-arg .given, via (c .of-u32 .ok) (c .of-u32 .ensures)) (omega (arith, c .before .before .before .before .before .pre .2 .at (c .before .before .before .before .before .args .x)))
+more-requires : tie.Need-more-requires
+more-requires c κs =
+    let a = c .before .before .before .before in
+    let most : c .due .result ≤ a .args .t = rw (c .due .ensures) (due-most (marked (now (a .args .served)) (a .args .x)) (a .args .t)) in
+    let b = a .pre .2 .at (a .args .x) in
+    simp (back32, c .before .before .more-arg .given) (omega (arith, sum (at (now (a .args .base)) (a .args .x)) (pos (c .due .result))))
 
 returns : tie.Need-returns
-returns c = via (c .add .ok) (c .add .ensures ∙ simp (back, c .before .before .before .before .add-arg .given, via (c .before .of-u32 .ok) (c .before .of-u32 .ensures), c .before .before .due .ensures))
+returns c = via32 (c .more .ok) (c .more .ensures ∙ simp (back32, c .before .before .before .more-arg .given, c .before .due .ensures))
 
 pub lifted-at-spec : {M : Type 1} → statement M
 lifted-at-spec =
     tie.close
     (tie.spec
-    mul-add
-    shared-slice-copy-out-add
+    mul-more
+    shared-slice-copy-out-more
     shared-slice-read-due
     due-requires
-    of-u32-requires
-    add-requires
+    more-requires
     returns)

@@ -1,6 +1,5 @@
 use Prim.Native.Nat.{_-_, _≤_}
-use Rattle.segments.specs.Delivery.{Giving, giving-ends, giving-next, giving-starts}
-use Rattle.whole.specs.Range.{within-more}
+use Rattle.segments.specs.Delivery.{Giving, giving-ends, giving-fits, giving-next, giving-starts}
 use borrow.Author.Needs.{needs}
 use lib.ListN.{length}
 use native.Mathlib.Omega.{arith}
@@ -27,8 +26,9 @@ sub-serve c = search needs
 
 serve-requires : tie.Need-serve-requires Inv-loop μ-loop
 serve-requires c κs =
+    let p = c .before .before .before .before .before .pre in
     let l = c .before .before .before .loop in
-    (omega (arith, c .before .before .before .before .before .pre .0 .at (l .i)), within-more (omega arith) (l .inv .1 .small .at _), search needs)
+    (omega (arith, p .0 .at (l .i)), giving-fits (l .inv .1) (p .2) _ _, search needs)
 
 add-i : tie.Need-add-i Inv-loop μ-loop
 add-i c = search needs

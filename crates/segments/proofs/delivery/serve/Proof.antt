@@ -9,7 +9,7 @@ portion-requires : tie.Need-portion-requires
 portion-requires c κs = search needs
 
 give-requires : tie.Need-give-requires
-give-requires c κs = search needs
+give-requires c κs = let p = c .before .before .pre in (p .0, rw (c .before .portion .ensures) (p .1))
 
 sub-result : tie.Need-sub-result
 sub-result c = omega (arith, c .before .before .before .portion .ensures, div-le-self (c .before .before .before .before .args .left) (c .before .before .before .before .args .n))

@@ -28,7 +28,7 @@ deliver-requires : tie.Need-deliver-requires
 deliver-requires c κs =
     let a = c .before .before .before .before .before .before .before .before .before .before .before .before .before in
     let w = c .before .before .before .before .before .walk .ensures in
-    (rw (cut _ _ _ (w .order), w .is) (segment-inside _ _ _ _ _ _ _ (a .pre .1 .0)), a .pre .0 .laid .delays-in)
+    (rw (cut _ _ _ (w .order), w .is) (segment-inside _ _ _ _ _ _ _ (a .pre .1 .0)), a .pre .0 .laid .delays-in, rw (c .before .before .before .before .before .before .before .before .amount-at .ensures) (a .pre .1 .3))
 
 same-length : tie.Need-same-length
 same-length c = search needs

@@ -1,5 +1,5 @@
 use Rattle.circuit.specs.Rounds.{level}
-use Rattle.whole.specs.Range.{back}
+use Rattle.whole.specs.Range.{back, back32}
 use borrow.Author.Needs.{needs}
 use mathlib.Core.Path.{_∙_}
 use Rattle.segments.proofs.steps.is_level.Statement.{statement}
@@ -26,11 +26,11 @@ shared-slice-copy-out-is-sum-3 c = search needs
 is-sum-requires : tie.Need-is-sum-requires
 is-sum-requires c κs =
     let a = c .before .before .before in
-    simp (back, c .before .is-sum-arg2 .given, c .is-sum-arg3 .given) (a .pre .3 .at (a .args .f), a .pre .4 .at (a .args .t))
+    simp (back, back32, c .before .is-sum-arg2 .given, c .is-sum-arg3 .given) (a .pre .3 .at (a .args .f), a .pre .4 .at (a .args .t))
 
 returns : tie.Need-returns
 unfolding level
-returns c = c .is-sum .ensures ∙ simp (back, c .before .is-sum-arg3 .given, c .before .before .is-sum-arg2 .given, c .before .before .before .is-sum-arg .given)
+returns c = c .is-sum .ensures ∙ simp (back, back32, c .before .is-sum-arg3 .given, c .before .before .is-sum-arg2 .given, c .before .before .before .is-sum-arg .given)
 
 pub is-level-spec : {M : Type 1} → statement M
 is-level-spec =
