@@ -53,14 +53,14 @@ module _ {A : Type 0} {before after : List A} {r : Answer} where
 
 module _ {A : Type 0} where
   -- after a refusal nothing else is looked at, and where there is none, all is
-  pub unless-refused : (a : Answer) (l : Left A) (before : List A) → Refused a → Leaves (unless a l) before a before
-  unless-refused a l before h = leaves-no (eq (numberOf a) 0) l (refusal a) (λ e. h (placeOf a) (answer-one e refl)) (refusal-leaves a before)
+  pub unless-refused : (a : Answer) (l : Left A) → Refused a → unless a l ≡ refusal a
+  unless-refused a l h = sym (if-no (eq (numberOf a) 0) l (λ e. h (placeOf a) (answer-one e refl)) refl)
 
-  pub unless-done : {before after : List A} {r : Answer} (a : Answer) (l : Left A) → numberOf a ≡ 0 → Leaves l before r after → Leaves (unless a l) before r after
-  unless-done a l e = leaves-yes (eq (numberOf a) 0) l (refusal a) e
+  pub unless-done : (a : Answer) (l : Left A) → numberOf a ≡ 0 → unless a l ≡ l
+  unless-done a l e = sym (if-yes (eq (numberOf a) 0) (refusal a) e refl)
 
   pub done-unless : {before after : List A} {r : Answer} (a : Answer) (l : Left A) → numberOf a ≡ 0 → Leaves (unless a l) before r after → Leaves l before r after
-  done-unless a l e = carry (sym (if-yes (eq (numberOf a) 0) (refusal a) e refl))
+  done-unless a l e = carry (unless-done a l e)
 
 module _ {A : Type 0} (room needed : ℕ) (w before : List A) where
   pub room-short : room < needed → Leaves (inRoom room needed w) before (Room needed) before

@@ -3,18 +3,18 @@ use mathlib.Core.Path.{_≡_, refl, sym, _∙_}
 use mathlib.Core.Bool.{true, false}
 use mathlib.Core.List.{List}
 use Prim.Native.Nat.{ℕ}
-use lib.IntN.{ℤ}
 use lib.ListN.{length, take}
 use Rattle.circuit.specs.Budget.{known}
 use Rattle.netlists.specs.declared.Verdict.{Verdict}
 use Rattle.netlists.specs.declared.Verdict.the-variants as J
 use Rattle.netlists.specs.Judge.{boardOf, judgeOf}
 use Rattle.netlists.specs.Held.{Arrays, Board-in, Judges}
+use Rattle.netlists.specs.Accepted.{accepted}
 use Rattle.hozbantir.specs.declared.answers.Answer.{Answer}
 use Rattle.hozbantir.specs.declared.answers.Answer.the-variants.{Done, Mode}
 use Rattle.hozbantir.specs.Answers.{Left, onVerdict, unless, Leaves}
 use Rattle.hozbantir.specs.AnswerLaws.{Refused, refusal-leaves, unless-refused, unless-done, verdict-refused, verdict-same, leaves-yes, leaves-no}
-use Rattle.hozbantir.specs.Calls.{takenOf, analysisOn, analysisOf, Analyses, budgetOn, budgetFor, Budgets, resultOn, bothOf}
+use Rattle.hozbantir.specs.Calls.{takenOf, budgetOn, budgetFor, Budgets, resultOn, bothOf}
 use Rattle.hozbantir.specs.Taken.{netIn}
 
 module _ {s : List ℕ} {v : Verdict} {a : Arrays} (j : Judges s v a) where
@@ -23,13 +23,12 @@ module _ {s : List ℕ} {v : Verdict} {a : Arrays} (j : Judges s v a) where
     refused-is : (b : Answer) → (r ≡ onVerdict (judgeOf s) b) × Refused r
     refused-is b = (e ∙ verdict-same v (Done 0) b h ∙ rw (j .judged) refl, rw e (verdict-refused v (Done 0) h))
 
-    refused-leaves : {A : Type 0} (l : Left A) (before : List A) → Leaves (unless (takenOf s) l) before r before
+    pub taken-refused : (r ≡ takenOf s) × Refused r
     unfolding takenOf
-    refused-leaves l before = let (q, f) = refused-is (Done (length (boardOf s .kinds))) in rw (sym q) (unless-refused r l before f)
+    taken-refused = refused-is _
 
-    pub analyses-refused : (before : List ℤ) → Analyses s before r before
-    unfolding analysisOf
-    analyses-refused before = refused-leaves _ before
+    refused-leaves : {A : Type 0} (l : Left A) (before : List A) → Leaves (unless (takenOf s) l) before r before
+    refused-leaves l before = let (q, f) = taken-refused in rw (sym q, unless-refused r l f) (refusal-leaves r before)
 
     pub budgets-refused : (m : ℕ) (before : List ℕ) → known m ≡ true → Budgets m s before r before
     unfolding budgetFor
@@ -47,13 +46,12 @@ module _ {s : List ℕ} {v : Verdict} {a : Arrays} (j : Judges s v a) where
     taken : Board-in (boardOf s) n m a
     taken = rw e at (j .decodes)
 
-    taken-leaves : {A : Type 0} {l : Left A} {before after : List A} {r : Answer} → Leaves l before r after → Leaves (unless (takenOf s) l) before r after
+    pub taken-done : Done n ≡ takenOf s
     unfolding takenOf
-    taken-leaves {l = l} = unless-done (takenOf s) l (rw good refl)
+    taken-done = rw (good, accepted s good .parts-are)
 
-    pub analyses-taken : {before after : List ℤ} {r : Answer} → Leaves (analysisOn (netIn n m a) (take n (a .bs)) (length before)) before r after → Analyses s before r after
-    unfolding analysisOf
-    analyses-taken p = let b = taken in taken-leaves (rw (b .kinds, b .times, b .froms, b .tos, b .bases) at p)
+    taken-leaves : {A : Type 0} {l : Left A} {before after : List A} {r : Answer} → Leaves l before r after → Leaves (unless (takenOf s) l) before r after
+    taken-leaves {l = l} p = rw (unless-done (takenOf s) l (rw (sym taken-done) refl)) p
 
     pub budgets-taken : (k : ℕ) {before after : List ℕ} {r : Answer} → known k ≡ true → Leaves (budgetOn k (netIn n m a) (take n (a .bs)) (length before)) before r after → Budgets k s before r after
     unfolding budgetFor

@@ -1,12 +1,11 @@
 -- What every call keeps: a refusal writes nothing, success counts what it writes, every place is small, and no number is 9.
-use mathlib.Core.Path.{_≡_, refl, sym, _∙_}
-use mathlib.Core.Logic.{⊎-elim}
+use mathlib.Core.Path.{_≡_, refl, _∙_}
 use mathlib.Core.List.{List, []}
 use Prim.Native.Nat.{ℕ, _≤_, _<_}
 use native.Mathlib.Omega.{arith}
 use lib.IntN.{ℤ}
 use lib.ListN.{length}
-use Rattle.whole.specs.Pick.{lt, eq, is, if-cases, if-yes, if-no, decide}
+use Rattle.whole.specs.Pick.{lt, eq, is, if-cases}
 use Rattle.circuit.specs.ListLaws.{count-le}
 use Rattle.circuit.specs.Netlist.{Netlist, parts, servedOf, marked}
 use Rattle.circuit.specs.ServedLaws.{length-served}
@@ -133,33 +132,3 @@ reads-fair s q room =
     let b = boardOf s .bases in
     fair-unless (bothOf s q) _ (both-small s q)
     (fair-room room (length (boardOf s .kinds)) (boundsRead sv b (saidOf s q)) (length-read sv b (saidOf s q) ∙ length-served (boardOf s .kinds)) (omega (arith, few-parts s)))
-
--- ---- room for more than 1,024 numbers is never asked for
-
-room-same : {A : Type 0} (r r′ needed : ℕ) (w : List A) → (r < needed → r′ < needed) → (needed ≤ r → needed ≤ r′) → inRoom r needed w ≡ inRoom r′ needed w
-room-same r r′ needed w f g =
-    ⊎-elim (λ h. sym (if-yes (lt r needed) _ h refl) ∙ if-yes (lt r′ needed) _ (f h) refl) (λ h. sym (if-no (lt r needed) _ h refl) ∙ if-no (lt r′ needed) _ (g h) refl) (decide (lt r needed))
-
--- r is as many as fit in the room, up to 1,024
-pub record Enough (room r : ℕ) : Type 0 where
-  pub within : r ≤ room
-  pub most : r ≤ 1024
-  pub all : (n : ℕ) → n ≤ 1024 → n ≤ room → n ≤ r
-
-module _ (s : List ℕ) {room r : ℕ} (e : Enough room r) where
-  enough-less : (n : ℕ) → n ≤ 1024 → r < n → room < n
-  enough-less n h k = ⊎-elim (λ l. l) (λ l. absurd (omega (arith, e .all n h l))) (decide (lt room n))
-
-  pub analysis-enough : analysisOf s r ≡ analysisOf s room
-  unfolding analysisOf analysisOn
-  analysis-enough =
-      let n = length (boardOf s .kinds) in
-      let w = slacks (netOn (boardOf s)) (boardOf s .bases) in
-      rw (room-same r room n w (enough-less n (few-parts s)) (λ h. omega arith))
-
-  pub reads-enough : (q : List ℕ) → readBackOf s q r ≡ readBackOf s q room
-  unfolding readBackOf boundsOn
-  reads-enough q =
-      let n = length (boardOf s .kinds) in
-      let w = boundsRead (servedOf (boardOf s .kinds)) (boardOf s .bases) (saidOf s q) in
-      rw (room-same r room n w (enough-less n (few-parts s)) (λ h. omega arith))

@@ -14,8 +14,8 @@ pub mod NineLaws
 pub mod AnswerLaws
 pub mod Taken
 pub mod Tags
-pub mod Slacks
 pub mod CallLaws
+pub mod Slacks
 pub mod Budgeting
 pub mod Reading
 pub mod Fair

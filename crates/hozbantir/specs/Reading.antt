@@ -1,7 +1,7 @@
 -- How the code meets read back: what it holds of a netlist and a result that were judged, and what it leaves.
 use mathlib.Core.Path.{_≡_, refl, sym, ap, _∙_}
 use mathlib.Core.List.{List, _++_}
-use Prim.Native.Nat.{ℕ, _<_, _≤_}
+use Prim.Native.Nat.{ℕ, _≤_}
 use native.Mathlib.Omega.{arith}
 use lib.IntN.{ℤ}
 use lib.ListN.{length, take, drop}
@@ -20,10 +20,10 @@ use Rattle.results.specs.Columns.{Columns, Bases, Increments}
 use Rattle.results.specs.Bounds.{length-read}
 use Rattle.results.specs.Accepted as Q
 use Rattle.hozbantir.specs.declared.answers.Answer.{Answer}
-use Rattle.hozbantir.specs.declared.answers.Answer.the-variants.{Done, Room, Result}
-use Rattle.hozbantir.specs.Answers.{numberOf, placeOf, inRoom, onVerdict, onTold, Leaves}
-use Rattle.hozbantir.specs.AnswerLaws.{Refused, unless-refused, unless-done, verdict-good, room-short, room-enough}
-use Rattle.hozbantir.specs.Calls.{takenOf, resultOn, bothOf, saidOf, boundsOn, readBackOf, ReadsBack}
+use Rattle.hozbantir.specs.declared.answers.Answer.the-variants.{Done, Result}
+use Rattle.hozbantir.specs.Answers.{numberOf, placeOf, refusal, inRoom, onVerdict, onTold}
+use Rattle.hozbantir.specs.AnswerLaws.{Refused, unless-refused, unless-done, verdict-good}
+use Rattle.hozbantir.specs.Calls.{takenOf, resultOn, bothOf, saidOf, boundsOn, readBackOf}
 use Rattle.hozbantir.specs.CallLaws.{both-refused, both-taken}
 use Rattle.hozbantir.specs.Taken.{Taken, accepted-taken}
 use Rattle.hozbantir.specs.Budgeting.{taken-bases, taken-columns}
@@ -132,20 +132,13 @@ pub record Listed (n : ℕ) (sv : List ℕ) (bs : List ℤ) (incs : List ℕ) : 
   pub bases-all : n ≤ length bs
   pub incs-all : n ≤ length incs
 
-module _ (n : ℕ) (sv : List ℕ) (bs : List ℤ) (incs before : List ℕ) where
-  abbrev bounds : List ℕ
-  bounds = boundsRead (take n sv) (take n bs) (take n incs)
-
-  pub bounds-short : length before < n → Leaves (inRoom (length before) n bounds) before (Room n) before
-  bounds-short h = room-short (length before) n bounds before h
-
-  pub bounds-done : {after : List ℕ} → n ≤ length sv → n ≤ length before → after ≡ bounds ++ drop n before → Leaves (inRoom (length before) n bounds) before (Done n) after
-  bounds-done k h q = room-enough (length before) n bounds before h (length-read (take n sv) (take n bs) (take n incs) ∙ length-take-le n sv k) q
+pub length-listed : {n : ℕ} {sv : List ℕ} {bs : List ℤ} {incs : List ℕ} → Listed n sv bs incs → length (boundsRead (take n sv) (take n bs) (take n incs)) ≡ n
+length-listed {n} {sv} {bs} {incs} l = length-read (take n sv) (take n bs) (take n incs) ∙ length-take-le n sv (l .marks-all)
 
 module _ {s q : List ℕ} {r : Answer} {bs : List ℤ} {sv incs : List ℕ} (b : Both s q r bs sv incs) where
-  pub reads-refused : (before : List ℕ) → Refused r → ReadsBack s q before r before
+  pub reads-refused : (room : ℕ) → Refused r → readBackOf s q room ≡ refusal r
   unfolding readBackOf
-  reads-refused before h = rw (sym (b .answer)) (unless-refused r _ before h)
+  reads-refused room h = rw (sym (b .answer)) (unless-refused r _ h)
 
   module _ {n : ℕ} (e : r ≡ Done n) where
     abbrev done : bothOf s q ≡ Done n
@@ -166,9 +159,9 @@ module _ {s q : List ℕ} {r : Answer} {bs : List ℤ} {sv incs : List ℕ} (b :
           incs-all = omega (arith, a .count);
         }
 
-    pub reads-done : {before after : List ℕ} {o : Answer} → Leaves (inRoom (length before) n (boundsRead (take n sv) (take n bs) (take n incs))) before o after → ReadsBack s q before o after
+    pub reads-done : (room : ℕ) → readBackOf s q room ≡ inRoom room n (boundsRead (take n sv) (take n bs) (take n incs))
     unfolding readBackOf boundsOn
-    reads-done p =
+    reads-done room =
         let a = both-agree s q done .3 in
         let l = b .held e in
-        unless-done (bothOf s q) _ (ap numberOf done) (rw (sym (a .count)) (rw (l .bases, l .marks, l .increments) at p))
+        unless-done (bothOf s q) _ (ap numberOf done) ∙ rw (sym (a .count), l .bases, l .marks, l .increments)

@@ -77,6 +77,34 @@ fn judge_both(
     judge_in(n, result, kinds, bases, served, incs)
 }
 
+// The arrays that only the judging needs last no longer than it.
+pub fn judged(
+    netlist: &[u8],
+    result: &[u8],
+    bases: &mut [i32],
+    served: &mut [u8],
+    incs: &mut [u32],
+) -> Answer
+    requires { ⌜ (length (now bases) ≡ 1024) × (length (now served) ≡ 1024) × (length (now incs) ≡ 1024) ⌝ }
+    ensures { λ r. ⌜ Both (now (netlist .entry)) (now (result .entry)) r (now (bases .exit)) (now (served .exit)) (now (incs .exit)) ⌝ }
+{
+    let mut kinds = [0u8; 1024];
+    let mut times = [0i32; 1024];
+    let mut from = [0u16; 4096];
+    let mut to = [0u16; 4096];
+    judge_both(
+        netlist,
+        result,
+        &mut kinds,
+        bases,
+        &mut times,
+        &mut from,
+        &mut to,
+        served,
+        incs,
+    )
+}
+
 // The bounds of n components, if the buffer has room.
 fn bounds_on(n: usize, out: &mut [u32], served: &[u8], bases: &[i32], incs: &[u32]) -> Answer
     requires { ⌜ Listed n (now served) (now bases) (now incs) ⌝ }
@@ -89,23 +117,19 @@ fn bounds_on(n: usize, out: &mut [u32], served: &[u8], bases: &[i32], incs: &[u3
     Answer::Done(n)
 }
 
-// The same on the files, with arrays to decode them into.
+// The same on the files, with arrays for what was judged.
 fn read_back_with(
     netlist: &[u8],
     result: &[u8],
     out: &mut [u32],
-    kinds: &mut [u8],
     bases: &mut [i32],
-    times: &mut [i32],
-    from: &mut [u16],
-    to: &mut [u16],
     served: &mut [u8],
     incs: &mut [u32],
 ) -> Answer
-    requires { ⌜ LongParts (now kinds) (now bases) (now times) × LongWires (now from) (now to) × (length (now served) ≡ 1024) × (length (now incs) ≡ 1024) ⌝ }
+    requires { ⌜ (length (now bases) ≡ 1024) × (length (now served) ≡ 1024) × (length (now incs) ≡ 1024) ⌝ }
     ensures { λ r. ⌜ ReadsBack (now (netlist .entry)) (now (result .entry)) (now (out .entry)) r (now (out .exit)) ⌝ }
 {
-    let a = judge_both(netlist, result, kinds, bases, times, from, to, served, incs);
+    let a = judged(netlist, result, bases, served, incs);
     let Answer::Done(n) = a else {
         return a;
     };
@@ -116,23 +140,8 @@ fn read_back_with(
 pub fn read_back(netlist: &[u8], result: &[u8], bounds: &mut [u32]) -> Answer
     ensures { λ r. ⌜ ReadsBack (now (netlist .entry)) (now (result .entry)) (now (bounds .entry)) r (now (bounds .exit)) ⌝ }
 {
-    let mut kinds = [0u8; 1024];
     let mut bases = [0i32; 1024];
-    let mut times = [0i32; 1024];
-    let mut from = [0u16; 4096];
-    let mut to = [0u16; 4096];
     let mut served = [0u8; 1024];
     let mut incs = [0u32; 1024];
-    read_back_with(
-        netlist,
-        result,
-        bounds,
-        &mut kinds,
-        &mut bases,
-        &mut times,
-        &mut from,
-        &mut to,
-        &mut served,
-        &mut incs,
-    )
+    read_back_with(netlist, result, bounds, &mut bases, &mut served, &mut incs)
 }

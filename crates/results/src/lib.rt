@@ -2,7 +2,7 @@
 ghost use mathlib.Core.Path.{_≡_};
 ghost use mathlib.Core.List.{List, _++_};
 ghost use Prim.Native.Nat.{ℕ, _+_, _*_, _≤_, _<_};
-ghost use lib.ListN.{length, drop};
+ghost use lib.ListN.{length, getD, drop};
 ghost use Rattle.whole.specs.Whole.{up};
 ghost use Rattle.circuit.specs.Lists.{count};
 ghost use Rattle.circuit.specs.Netlist.{marked};
@@ -288,6 +288,14 @@ fn bound_of(mark: u8, base: i32, increment: u32) -> u32
     }
 }
 
+// The bound of component x.
+pub fn bound_read(served: &[u8], bases: &[i32], incs: &[u32], x: usize) -> u32
+    requires { ⌜ Columns (now served) (now bases) (now incs) × Bases (now bases) × Increments (now incs) × (x < length (now served)) ⌝ }
+    ensures { λ r. ⌜ r ≡ getD (boundsRead (now (served .entry)) (now (bases .entry)) (now (incs .entry))) x 0 ⌝ }
+{
+    bound_of(served[x], bases[x], incs[x])
+}
+
 // From base delays and increments alone, whatever the buffer held.
 pub fn bounds_in(bounds: &mut [u32], served: &[u8], bases: &[i32], incs: &[u32])
     requires { ⌜ Columns (now served) (now bases) (now incs) × Bases (now bases) × Increments (now incs) × (length (now bounds) ≡ length (now served)) ⌝ }
@@ -295,7 +303,7 @@ pub fn bounds_in(bounds: &mut [u32], served: &[u8], bases: &[i32], incs: &[u32])
 {
     let mut x: usize = 0;
     while x < bounds.len() {
-        bounds[x] = bound_of(served[x], bases[x], incs[x]);
+        bounds[x] = bound_read(served, bases, incs, x);
         x += 1;
     }
 }

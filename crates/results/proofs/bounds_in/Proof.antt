@@ -1,9 +1,7 @@
 use Prim.Native.Nat.{_-_, _≤_}
-use Rattle.circuit.specs.Demand.{bounds}
-use Rattle.results.specs.Bounds.{length-read, read-at}
+use Rattle.results.specs.Bounds.{length-read}
 use Rattle.results.specs.Result.{boundsRead}
 use Rattle.whole.specs.Fill.{Filling, filling-ends, filling-next, filling-starts}
-use Rattle.whole.specs.Range.{back32}
 use borrow.Author.Needs.{needs}
 use lib.ListN.{length}
 use mathlib.Core.Path.{_∙_, sym}
@@ -20,23 +18,8 @@ abbrev μ-loop : tie.MeasureT-loop
 loop-holds : tie.Need-loop-holds Inv-loop μ-loop
 loop-holds c = (search needs, filling-starts (length-read _ _ _ ∙ sym (c .before .before .before .pre .3)))
 
-shared-slice-read-bound-of : tie.Need-shared-slice-read-bound-of Inv-loop μ-loop
-shared-slice-read-bound-of c = search needs
-
-mul-bound-of : tie.Need-mul-bound-of Inv-loop μ-loop
-mul-bound-of c = search needs
-
-shared-slice-copy-out-bound-of : tie.Need-shared-slice-copy-out-bound-of Inv-loop μ-loop
-shared-slice-copy-out-bound-of c = search needs
-
-mul-bound-of-2 : tie.Need-mul-bound-of-2 Inv-loop μ-loop
-mul-bound-of-2 c = search needs
-
-shared-slice-read-bound-of-2 : tie.Need-shared-slice-read-bound-of-2 Inv-loop μ-loop
-shared-slice-read-bound-of-2 c = search needs
-
-bound-of-requires : tie.Need-bound-of-requires Inv-loop μ-loop
-bound-of-requires c κs = (simp (back32, c .before .bound-of-arg .given) (c .before .before .before .before .before .before .before .before .pre .1 .most _), c .before .before .before .before .before .before .before .before .pre .2 .most _)
+bound-read-requires : tie.Need-bound-read-requires Inv-loop μ-loop
+bound-read-requires c κs = search needs
 
 mul-bounds : tie.Need-mul-bounds Inv-loop μ-loop
 mul-bounds c = search needs
@@ -51,7 +34,7 @@ loop-less : tie.Need-loop-less Inv-loop μ-loop
 loop-less c = search needs
 
 loop-again : tie.Need-loop-again Inv-loop μ-loop
-loop-again c = (search needs, filling-next 0 (c .before .before .before .before .before .loop .inv .1) (rw length-read (search needs)) (c .bound-of .ensures ∙ simp (back32, c .before .before .bound-of-arg .given) (sym (read-at _ _ _ _ (search needs)))))
+loop-again c = (search needs, filling-next 0 (c .before .before .loop .inv .1) (rw length-read (search needs)) (c .bound-read .ensures))
 
 same-length : tie.Need-same-length Inv-loop μ-loop
 same-length c = search needs
@@ -66,12 +49,7 @@ bounds-in-spec =
     Inv-loop
     μ-loop
     loop-holds
-    shared-slice-read-bound-of
-    mul-bound-of
-    shared-slice-copy-out-bound-of
-    mul-bound-of-2
-    shared-slice-read-bound-of-2
-    bound-of-requires
+    bound-read-requires
     mul-bounds
     slice-write-bounds
     add-x

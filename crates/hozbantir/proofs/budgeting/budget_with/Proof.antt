@@ -2,7 +2,6 @@ use Rattle.hozbantir.specs.Budgeting.{mode-known, mode-unknown}
 use Rattle.hozbantir.specs.CallLaws.{budgets-mode, budgets-refused, budgets-taken}
 use Rattle.hozbantir.specs.Tags.{not-good}
 use Rattle.hozbantir.specs.Taken.{kept-filled}
-use mathlib.Core.Path.{_∙_}
 use borrow.Author.Needs.{needs}
 use Rattle.hozbantir.proofs.budgeting.budget_with.Statement.{statement}
 use Rattle.hozbantir.proofs.budgeting.budget_with.Tie as tie

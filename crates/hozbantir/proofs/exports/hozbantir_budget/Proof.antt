@@ -8,7 +8,7 @@ budget-requires : tie.Need-budget-requires
 budget-requires c κs = search needs
 
 code-requires : tie.Need-code-requires
-code-requires c κs = leaves-small (budget-fair _ _ _) (c .before .before .budget .ensures)
+code-requires c κs = leaves-small (budget-fair _ _ _ .small) (c .before .before .budget .ensures)
 
 same-length : tie.Need-same-length
 same-length c = search needs

@@ -1,74 +1,23 @@
-use Rattle.hozbantir.specs.Fair.{reads-fair}
-use Rattle.hozbantir.specs.Spreading.{leaves-small, reads-in, sends-refused, sends-room, sends-fits, sends-part, sends-done}
+use Rattle.hozbantir.specs.Exports.{roomIn}
+use Rattle.hozbantir.specs.Reading.{reads-refused, both-listed, reads-done}
+use Rattle.hozbantir.specs.Spreading.{sent-refusal}
+use Rattle.hozbantir.specs.Tags.{not-done}
+use Rattle.hozbantir.proofs.answers.Answer.{the-type}
+use denote.Enum.Declared.{tagOf}
 use denote.Ref.{now}
-use lib.Seq.{length-take-le}
-use mathlib.Core.Path.{sym, _∙_}
-use native.Mathlib.Omega.{arith}
+use mathlib.Core.Path.{refl, _∙_}
 use borrow.Author.Needs.{needs}
 use Rattle.hozbantir.proofs.exports.read_back_into.Statement.{statement}
 use Rattle.hozbantir.proofs.exports.read_back_into.Tie as tie
 
-room-of-requires : tie.Need-room-of-requires
-room-of-requires c κs = search needs
+judged-requires : tie.Need-judged-requires
+judged-requires c κs = search needs
 
-slice-relend-prefix-read-back : tie.Need-slice-relend-prefix-read-back
-slice-relend-prefix-read-back c = search needs
-
-slice-aggregate-read-back : tie.Need-slice-aggregate-read-back
-slice-aggregate-read-back c = sym (length-take-le (c .before .room-of .result) (now (c .before .before .before .before .before .before .args .numbers)) (omega (arith, c .before .room-of .ensures .most, c .before .before .before .before .before .before .pre)))
-
-read-back-requires : tie.Need-read-back-requires
-read-back-requires c κs = search needs
-
-number-requires : tie.Need-number-requires
-number-requires c κs = search needs
-
-code-requires : tie.Need-code-requires
-code-requires c κs = leaves-small (reads-fair _ _ _) (c .before .before .before .before .read-back .ensures)
+enum-known-a : tie.Need-enum-known-a
+enum-known-a c = search needs
 
 same-length : tie.Need-same-length
 same-length c = search needs
-
-returns : tie.Need-returns
-returns c = let e = c .before .before .before .before .before .before .before .room-of .ensures in
-    let k = length-take-le (c .before .before .before .before .before .before .before .room-of .result) (now (c .before .before .before .before .before .before .before .before .before .before .before .before .args .numbers)) (omega (arith, e .most, c .before .before .before .before .before .before .before .before .before .before .before .before .pre)) in
-    let p = reads-in e _ _ k (c .before .before .before .before .before .read-back .ensures) in
-    let g = reads-fair _ _ _ in
-    let same = c .before .before .before .before .before .read-back .kept .1 .1 .0 in
-    sends-refused (λ x. x) g p (omega (arith, c .before .before .number .ensures, c .before .if1 .taken)) (c .code .ensures)
-
-place-requires : tie.Need-place-requires
-place-requires c κs = search needs
-
-slice-reshare-prefix-put-bounds : tie.Need-slice-reshare-prefix-put-bounds
-slice-reshare-prefix-put-bounds c = let e = c .before .before .before .before .before .before .before .before .room-of .ensures in
-    let k = length-take-le (c .before .before .before .before .before .before .before .before .room-of .result) (now (c .before .before .before .before .before .before .before .before .before .before .before .before .before .args .numbers)) (omega (arith, e .most, c .before .before .before .before .before .before .before .before .before .before .before .before .before .pre)) in
-    let p = reads-in e _ _ k (c .before .before .before .before .before .before .read-back .ensures) in
-    let g = reads-fair _ _ _ in
-    let same = c .before .before .before .before .before .before .read-back .kept .1 .1 .0 in
-    let z = sym (c .before .before .before .number .ensures) ∙ c .before .before .if1 .left in
-    rw (c .place .ensures) (sends-fits (λ x. x) g p _ z same)
-
-slice-aggregate-put-bounds : tie.Need-slice-aggregate-put-bounds
-slice-aggregate-put-bounds c = let e = c .before .before .before .before .before .before .before .before .before .room-of .ensures in
-    let k = length-take-le (c .before .before .before .before .before .before .before .before .before .room-of .result) (now (c .before .before .before .before .before .before .before .before .before .before .before .before .before .before .args .numbers)) (omega (arith, e .most, c .before .before .before .before .before .before .before .before .before .before .before .before .before .before .pre)) in
-    let p = reads-in e _ _ k (c .before .before .before .before .before .before .before .read-back .ensures) in
-    let g = reads-fair _ _ _ in
-    let same = c .before .before .before .before .before .before .before .read-back .kept .1 .1 .0 in
-    let z = sym (c .before .before .before .before .number .ensures) ∙ c .before .before .before .if1 .left in
-    rw (c .before .place .ensures) (sym (sends-part (λ x. x) g p _ z same))
-
-put-bounds-requires : tie.Need-put-bounds-requires
-put-bounds-requires c κs = let e = c .before .before .before .before .before .before .before .before .before .room-of .ensures in
-    let k = length-take-le (c .before .before .before .before .before .before .before .before .before .room-of .result) (now (c .before .before .before .before .before .before .before .before .before .before .before .before .before .before .args .numbers)) (omega (arith, e .most, c .before .before .before .before .before .before .before .before .before .before .before .before .before .before .pre)) in
-    let p = reads-in e _ _ k (c .before .before .before .before .before .before .before .read-back .ensures) in
-    let g = reads-fair _ _ _ in
-    let same = c .before .before .before .before .before .before .before .read-back .kept .1 .1 .0 in
-    let z = sym (c .before .before .before .before .number .ensures) ∙ c .before .before .before .if1 .left in
-    rw (c .before .place .ensures, sends-part (λ x. x) g p _ z same) (omega (arith, sends-room (λ x. x) g p z same, e .within))
-
-code-requires-2 : tie.Need-code-requires-2
-code-requires-2 c κs = leaves-small (reads-fair _ _ _) (c .before .before .before .before .before .before .before .before .before .before .read-back .ensures)
 
 same-length-2 : tie.Need-same-length-2
 same-length-2 c = search needs
@@ -76,32 +25,40 @@ same-length-2 c = search needs
 same-length-3 : tie.Need-same-length-3
 same-length-3 c = search needs
 
+returns : tie.Need-returns
+returns c = rw (reads-refused (c .before .before .before .before .before .before .judged .ensures) (roomIn (now (c .before .before .before .before .before .before .before .before .before .before .before .before .before .before .before .args .bytes))) (not-done (tagOf the-type) (λ n. refl) _ (c .match .keys2))) (sent-refusal (λ x. x) _ _)
+
+bounds-into-requires : tie.Need-bounds-into-requires
+bounds-into-requires c κs = both-listed (c .before .before .before .before .before .before .before .before .before .before .before .before .judged .ensures) (c .before .before .before .before .before .a .given .1) (c .before .before .before .before .before .before .before .before .before .before .before .before .judged .kept .1 .1 .0 ∙ c .before .before .before .before .before .before .before .before .before .before .before .before .before .before .before .before .before .before .before .before .before .pre .0) (c .before .before .before .before .before .before .before .before .before .before .before .before .judged .kept .1 .1 .1 .0 ∙ c .before .before .before .before .before .before .before .before .before .before .before .before .before .before .before .before .before .before .before .before .before .pre .1) (c .before .before .before .before .before .before .before .before .before .before .before .before .judged .kept .1 .1 .1 .1 .0 ∙ c .before .before .before .before .before .before .before .before .before .before .before .before .before .before .before .before .before .before .before .before .before .pre .2)
+
+same-length-4 : tie.Need-same-length-4
+same-length-4 c = search needs
+
+same-length-5 : tie.Need-same-length-5
+same-length-5 c = search needs
+
+same-length-6 : tie.Need-same-length-6
+same-length-6 c = search needs
+
+same-length-7 : tie.Need-same-length-7
+same-length-7 c = search needs
+
 returns-2 : tie.Need-returns-2
-returns-2 c = let e = c .before .before .before .before .before .before .before .before .before .before .before .before .before .room-of .ensures in
-    let k = length-take-le (c .before .before .before .before .before .before .before .before .before .before .before .before .before .room-of .result) (now (c .before .before .before .before .before .before .before .before .before .before .before .before .before .before .before .before .before .before .args .numbers)) (omega (arith, e .most, c .before .before .before .before .before .before .before .before .before .before .before .before .before .before .before .before .before .before .pre)) in
-    let p = reads-in e _ _ k (c .before .before .before .before .before .before .before .before .before .before .before .read-back .ensures) in
-    let g = reads-fair _ _ _ in
-    let same = c .before .before .before .before .before .before .before .before .before .before .before .read-back .kept .1 .1 .0 in
-    let z = sym (c .before .before .before .before .before .before .before .before .number .ensures) ∙ c .before .before .before .before .before .before .before .if1 .left in
-    sends-done (λ x. x) g p _ z (c .code2 .ensures) (rw (c .before .before .before .before .before .place .ensures) at (c .before .before .before .put-bounds .ensures))
+returns-2 c = rw (reads-done (c .before .before .before .before .before .before .before .before .before .before .before .before .before .before .before .judged .ensures) (c .before .before .before .before .before .before .before .before .a .given .1) (roomIn (now (c .before .before .before .before .before .before .before .before .before .before .before .before .before .before .before .before .before .before .before .before .before .before .before .before .args .bytes)))) (c .before .before .bounds-into .ensures)
 
 pub read-back-into-spec : {M : Type 1} → statement M
 read-back-into-spec =
     tie.close
     (tie.spec
-    room-of-requires
-    slice-relend-prefix-read-back
-    slice-aggregate-read-back
-    read-back-requires
-    number-requires
-    code-requires
+    judged-requires
+    enum-known-a
     same-length
-    returns
-    place-requires
-    slice-reshare-prefix-put-bounds
-    slice-aggregate-put-bounds
-    put-bounds-requires
-    code-requires-2
     same-length-2
     same-length-3
+    returns
+    bounds-into-requires
+    same-length-4
+    same-length-5
+    same-length-6
+    same-length-7
     returns-2)

@@ -1,4 +1,5 @@
-use Rattle.hozbantir.specs.Reading.{bounds-short, bounds-done}
+use Rattle.hozbantir.specs.AnswerLaws.{room-short, room-enough}
+use Rattle.hozbantir.specs.Reading.{length-listed}
 use denote.Ref.{now}
 use mathlib.Core.Path.{sym, refl, _∙_}
 use lib.Seq.{length-take-le}
@@ -7,7 +8,7 @@ use Rattle.hozbantir.proofs.reading.bounds_on.Statement.{statement}
 use Rattle.hozbantir.proofs.reading.bounds_on.Tie as tie
 
 returns : tie.Need-returns
-returns c = let a = c .before .before .before .before in bounds-short (a .args .n) (now (a .args .served)) (now (a .args .bases)) (now (a .args .incs)) (now (a .args .out)) (c .if1 .taken)
+returns c = room-short _ _ _ _ (c .if1 .taken)
 
 slice-relend-prefix-bounds-in : tie.Need-slice-relend-prefix-bounds-in
 slice-relend-prefix-bounds-in c = search needs
@@ -31,7 +32,7 @@ same-length : tie.Need-same-length
 same-length c = search needs
 
 returns-2 : tie.Need-returns-2
-returns-2 c = let a = c .before .before .before .before .before .before .before .before .before .before .before in bounds-done (a .args .n) (now (a .args .served)) (now (a .args .bases)) (now (a .args .incs)) (now (a .args .out)) (a .pre .marks-all) (c .before .before .before .before .before .before .before .if1 .left) (rw (c .before .before .bounds-in .ensures) refl)
+returns-2 c = room-enough _ _ _ _ (c .before .before .before .before .before .before .before .if1 .left) (length-listed (c .before .before .before .before .before .before .before .before .before .before .before .pre)) (rw (c .before .before .bounds-in .ensures) refl)
 
 pub bounds-on-spec : {M : Type 1} → statement M
 bounds-on-spec =
