@@ -64,11 +64,12 @@ fn timed_with(
     times: &mut [i32],
     from: &mut [u16],
     to: &mut [u16],
+    met: &mut [u8],
 ) -> Answer
-    requires { ⌜ LongParts (now kinds) (now bases) (now times) × LongWires (now from) (now to) × (length (now arr) ≡ 1024) × (length (now req) ≡ 1024) ⌝ }
+    requires { ⌜ LongParts (now kinds) (now bases) (now times) × LongWires (now from) (now to) × (length (now arr) ≡ 1024) × (length (now req) ≡ 1024) × (length (now met) ≡ 1024) ⌝ }
     ensures { λ r. ⌜ Clocked (now (netlist .entry)) r (now (arr .exit)) (now (req .exit)) ⌝ }
 {
-    let v = netlists::read_netlist(netlist, kinds, bases, times, from, to);
+    let v = netlists::read_netlist(netlist, kinds, bases, times, from, to, met);
     let Verdict::Good(n, m) = v else {
         return refused(v);
     };
@@ -86,6 +87,7 @@ pub fn timed(netlist: &[u8], arr: &mut [i64], req: &mut [i64]) -> Answer
     let mut times = [0i32; 1024];
     let mut from = [0u16; 4096];
     let mut to = [0u16; 4096];
+    let mut met = [0u8; 1024];
     timed_with(
         netlist,
         arr,
@@ -95,6 +97,7 @@ pub fn timed(netlist: &[u8], arr: &mut [i64], req: &mut [i64]) -> Answer
         &mut times,
         &mut from,
         &mut to,
+        &mut met,
     )
 }
 

@@ -84,20 +84,20 @@ fn budget_in(
     n: usize,
     m: usize,
     out: &mut [u8],
+    served: &mut [u8],
     bases: &[i32],
     kinds: &[u8],
     times: &[i32],
     from: &[u16],
     to: &[u16],
 ) -> Answer
-    requires { ⌜ Filled n m (arrays (now kinds) (now bases) (now times) (now from) (now to)) × (mode ≤ 1) ⌝ }
+    requires { ⌜ Filled n m (arrays (now kinds) (now bases) (now times) (now from) (now to)) × (mode ≤ 1) × (length (now served) ≡ 1024) ⌝ }
     ensures { λ r. ⌜ Leaves (budgetOn mode (netIn n m (arrays (now (kinds .entry)) (now (bases .entry)) (now (times .entry)) (now (from .entry)) (now (to .entry)))) (take n (now (bases .entry))) (length (now (out .entry)))) (now (out .entry)) r (now (out .exit)) ⌝ }
 {
     let mut d = [0i32; 1024];
     let mut arr = [0i64; 1024];
     let mut req = [0i64; 1024];
     let mut seg = [0u16; 2049];
-    let mut served = [0u8; 1024];
     let mut incs = [0u32; 1024];
     budget_on(
         mode,
@@ -116,34 +116,37 @@ fn budget_in(
     )
 }
 
-// The same on the netlist file, with arrays to decode it into.
+// The same on the netlist file, with arrays to decode it into. The marks of who is served are not in use while the netlist is judged, so that
+// ENDS works in them.
 fn budget_with(
     mode: u32,
     netlist: &[u8],
     out: &mut [u8],
+    served: &mut [u8],
     kinds: &mut [u8],
     bases: &mut [i32],
     times: &mut [i32],
     from: &mut [u16],
     to: &mut [u16],
 ) -> Answer
-    requires { ⌜ LongParts (now kinds) (now bases) (now times) × LongWires (now from) (now to) ⌝ }
+    requires { ⌜ LongParts (now kinds) (now bases) (now times) × LongWires (now from) (now to) × (length (now served) ≡ 1024) ⌝ }
     ensures { λ r. ⌜ Budgets mode (now (netlist .entry)) (now (out .entry)) r (now (out .exit)) ⌝ }
 {
     if 1 < mode {
         return Answer::Mode;
     }
-    let v = netlists::read_netlist(netlist, kinds, bases, times, from, to);
+    let v = netlists::read_netlist(netlist, kinds, bases, times, from, to, served);
     let Verdict::Good(n, m) = v else {
         return refused(v);
     };
-    budget_in(mode, n, m, out, bases, kinds, times, from, to)
+    budget_in(mode, n, m, out, served, bases, kinds, times, from, to)
 }
 
 // Writes the result of the netlist in a mode.
 pub fn budget(mode: u32, netlist: &[u8], result: &mut [u8]) -> Answer
     ensures { λ r. ⌜ Budgets mode (now (netlist .entry)) (now (result .entry)) r (now (result .exit)) ⌝ }
 {
+    let mut served = [0u8; 1024];
     let mut kinds = [0u8; 1024];
     let mut bases = [0i32; 1024];
     let mut times = [0i32; 1024];
@@ -153,6 +156,7 @@ pub fn budget(mode: u32, netlist: &[u8], result: &mut [u8]) -> Answer
         mode,
         netlist,
         result,
+        &mut served,
         &mut kinds,
         &mut bases,
         &mut times,

@@ -55,7 +55,8 @@ fn judge_in(
     )
 }
 
-// Netlist and result, judged in this order: where both are taken, Done with how many components there are, and the arrays hold them.
+// Netlist and result, judged in this order: where both are taken, Done with how many components there are, and the arrays hold them. ENDS works
+// in the marks before they are filled.
 fn judge_both(
     netlist: &[u8],
     result: &[u8],
@@ -70,7 +71,7 @@ fn judge_both(
     requires { ⌜ LongParts (now kinds) (now bases) (now times) × LongWires (now from) (now to) × (length (now served) ≡ 1024) × (length (now incs) ≡ 1024) ⌝ }
     ensures { λ r. ⌜ Both (now (netlist .entry)) (now (result .entry)) r (now (bases .exit)) (now (served .exit)) (now (incs .exit)) ⌝ }
 {
-    let v = netlists::read_netlist(netlist, kinds, bases, times, from, to);
+    let v = netlists::read_netlist(netlist, kinds, bases, times, from, to, served);
     let Verdict::Good(n, _) = v else {
         return refused(v);
     };

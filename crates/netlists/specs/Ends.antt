@@ -1,5 +1,5 @@
 -- ENDS in the code's terms: over the lists of the arrays.
-use mathlib.Core.Bool.{Bool, not, _&&_, _||_}
+use mathlib.Core.Bool.{Bool, cond, Bool·beq}
 use mathlib.Core.List.{List}
 use Prim.Native.Nat.{ℕ, _≤_, _<_}
 use lib.Dec.{eqb}
@@ -10,14 +10,21 @@ use Rattle.netlists.specs.declared.Verdict.{Verdict}
 use Rattle.netlists.specs.declared.Verdict.the-variants.{Good, Broken, Tag, Size, Field, Wiring, Ends}
 use Rattle.netlists.specs.Judge.{ends, faulty}
 
--- numbers below n, so few that a count of them fits
-pub record Countable (l : List ℕ) (n : ℕ) : Type 0 where
-  pub below : (j : ℕ) → j < length l → getD l j 0 < n
-  pub few : length l ≤ 4096
+-- numbers below n
+pub record Below (l : List ℕ) (n : ℕ) : Type 0 where
+  pub each : (j : ℕ) → j < length l → getD l j 0 < n
 
--- `faulty` of one component, by its kind and its counts
-abbrev pub faultyBy : (k i o : ℕ) → Bool
-faultyBy k i o = (eqb k 0 && not (eqb i 0)) || ((eqb k 2 && not (eqb o 0)) || ((not (eqb k 0) && eqb i 0) || (not (eqb k 2) && eqb o 0)))
+-- 1 where the list has x, and 0 elsewhere
+abbrev pub markOf : List ℕ → ℕ → ℕ
+markOf l x = cond (eqb (ends l x) 0) 0 1
+
+-- the rule by one of the two lists, with its marks: faulty is who is of kind k and marked, or neither
+unfoldable pub faultAt : (ks ms : List ℕ) (k x : ℕ) → Bool
+faultAt ks ms k x = Bool·beq (eqb (getD ks x 0) k) (eqb (getD ms x 0) 1)
+
+-- the lowest that is, or the count of components
+unfoldable pub faultBy : (ks l : List ℕ) (k : ℕ) → ℕ
+faultBy ks l k = lowest (faultAt ks (tabulate (markOf l) (length ks)) k) (length ks)
 
 -- the lowest faulty component of a netlist with these kinds and connections, or their count
 unfoldable pub faultOf : (ks fs ts : List ℕ) → ℕ
@@ -38,8 +45,8 @@ pub record EndableBy (n m : ℕ) (ks fs ts : List ℕ) : Type 0 where
   pub few : n ≤ 1024
   pub sources-all : m ≤ length fs
   pub targets-all : m ≤ length ts
-  pub sources : Countable (take m fs) n
-  pub targets : Countable (take m ts) n
+  pub sources : Below (take m fs) n
+  pub targets : Below (take m ts) n
 
 abbrev pub Endable : Verdict → (ks fs ts : List ℕ) → Type 0
 Endable (Good n m) ks fs ts = EndableBy n m ks fs ts

@@ -23,8 +23,8 @@ module _ (b : Board) (a : Arrays) where
     few = omega arith;
     sources-all = omega arith;
     targets-all = omega arith;
-    sources = rw (d .froms, f .0) (record { below = λ j h. fine .wires j h .source; few = fine .fewer });
-    targets = rw (d .tos, f .0) (record { below = λ j h. fine .wires j (omega arith) .target; few = omega arith });
+    sources = rw (d .froms, f .0) (record { each = λ j h. fine .wires j h .source });
+    targets = rw (d .tos, f .0) (record { each = λ j h. fine .wires j (omega arith) .target });
   }
   endable (Broken p) fine l w f d = tt
   endable (Tag p) fine l w f d = tt

@@ -8,5 +8,5 @@ pub mod FuelLaws
 pub mod EndsLaws
 pub mod Accepted
 pub mod Ends
-pub mod CountLaws
+pub mod MarkLaws
 pub mod JudgeLaws

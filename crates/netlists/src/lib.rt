@@ -1,14 +1,14 @@
 // Netlist files: judged front to back, and decoded into the caller's arrays on the way.
 ghost use mathlib.Core.Path.{_≡_};
-ghost use mathlib.Core.Bool.{not, _&&_, _||_};
-ghost use Prim.Native.Nat.{_+_, _≤_, _<_};
+ghost use mathlib.Core.Bool.{not, _&&_, _||_, Bool·beq};
+ghost use Prim.Native.Nat.{_≤_, _<_};
 ghost use lib.Dec.{eqb};
 ghost use lib.IntN.{pos};
-ghost use lib.ListN.{length, getD, set, replicate};
+ghost use lib.ListN.{length, set, replicate};
 ghost use Rattle.whole.specs.Whole.{eqZ};
 ghost use Rattle.circuit.specs.Lists.{tabulate, lowest};
-ghost use Rattle.netlists.specs.Judge.{key, fieldsOk, wiringOk, ends, faulty};
-ghost use Rattle.netlists.specs.Ends.{Countable, faultyBy, faultOf, Endable, endedBy};
+ghost use Rattle.netlists.specs.Judge.{key, fieldsOk, wiringOk};
+ghost use Rattle.netlists.specs.Ends.{Below, markOf, faultAt, faultBy, faultOf, Endable, endedBy};
 ghost use Rattle.netlists.specs.Held.{componentOf, connectionOf, timeIn, arrays, LongParts, LongWires, Room, endedAt, OnComponent, OnConnection, OnRecord, OneStep, Read, Judges};
 use records::Found;
 
@@ -329,69 +329,50 @@ fn read_records(
 
 // ---- ENDS
 
-fn clear(counts: &mut [u16])
-    ensures { λ _. ⌜ now (counts .exit) ≡ replicate (length (now (counts .entry))) 0 ⌝ }
+fn clear(met: &mut [u8])
+    ensures { λ _. ⌜ now (met .exit) ≡ replicate (length (now (met .entry))) 0 ⌝ }
 {
     let mut i = 0;
-    while i < counts.len() {
-        counts[i] = 0;
+    while i < met.len() {
+        met[i] = 0;
         i += 1;
     }
 }
 
-fn count_one(counts: &mut [u16], x: u16)
-    requires { ⌜ (x < length (now counts)) × (getD (now counts) x 0 < 65535) ⌝ }
-    ensures { λ _. ⌜ now (counts .exit) ≡ set (now (counts .entry)) x (getD (now (counts .entry)) x 0 + 1) ⌝ }
+fn mark_one(met: &mut [u8], x: u16)
+    requires { ⌜ x < length (now met) ⌝ }
+    ensures { λ _. ⌜ now (met .exit) ≡ set (now (met .entry)) x 1 ⌝ }
 {
-    counts[x as usize] += 1;
+    met[x as usize] = 1;
 }
 
-// Whatever was in the counts before.
-fn count_ends(counts: &mut [u16], l: &[u16])
-    requires { ⌜ Countable (now l) (length (now counts)) ⌝ }
-    ensures { λ _. ⌜ now (counts .exit) ≡ tabulate (ends (now (l .entry))) (length (now (counts .entry))) ⌝ }
+// 1 for each component that the list meets and 0 for the others, whatever was there before.
+fn mark(met: &mut [u8], l: &[u16])
+    requires { ⌜ Below (now l) (length (now met)) ⌝ }
+    ensures { λ _. ⌜ now (met .exit) ≡ tabulate (markOf (now (l .entry))) (length (now (met .entry))) ⌝ }
 {
-    clear(counts);
+    clear(met);
     let mut j = 0;
     while j < l.len() {
-        count_one(counts, l[j]);
+        mark_one(met, l[j]);
         j += 1;
     }
 }
 
-// An input has no fan-in and no other is without, an output no fan-out and no other is without.
-fn is_faulty(kind: u8, ins: u16, outs: u16) -> bool
-    ensures { λ r. ⌜ r ≡ faultyBy kind ins outs ⌝ }
+// A component of kind k must not be met, and one of another kind must.
+fn is_fault(kind: u8, k: u8, mark: u8) -> bool
+    ensures { λ r. ⌜ r ≡ Bool·beq (eqb kind k) (eqb mark 1) ⌝ }
 {
-    if kind == 0 {
-        if ins == 0 {
-            return outs == 0;
-        }
-        return true;
-    }
-    if ins == 0 {
-        return true;
-    }
-    if kind == 2 {
-        return outs != 0;
-    }
-    outs == 0
+    (kind == k) == (mark == 1)
 }
 
-fn faulty_at(kinds: &[u8], ins: &[u16], outs: &[u16], x: usize) -> bool
-    requires { ⌜ (x < length (now kinds)) × (x < length (now ins)) × (x < length (now outs)) ⌝ }
-    ensures { λ r. ⌜ r ≡ faulty (now (kinds .entry)) (now (ins .entry)) (now (outs .entry)) x ⌝ }
-{
-    is_faulty(kinds[x], ins[x], outs[x])
-}
-
-fn lowest_fault(kinds: &[u8], ins: &[u16], outs: &[u16]) -> usize
-    requires { ⌜ (length (now ins) ≡ length (now kinds)) × (length (now outs) ≡ length (now kinds)) ⌝ }
-    ensures { λ r. ⌜ r ≡ lowest (faulty (now (kinds .entry)) (now (ins .entry)) (now (outs .entry))) (length (now (kinds .entry))) ⌝ }
+fn lowest_fault(kinds: &[u8], k: u8, met: &[u8]) -> usize
+    requires { ⌜ length (now met) ≡ length (now kinds) ⌝ }
+    ensures { λ r. ⌜ r ≡ lowest (faultAt (now (kinds .entry)) (now (met .entry)) k) (length (now (kinds .entry))) ⌝ }
 {
     let mut x = 0;
     while x < kinds.len() {
-        if faulty_at(kinds, ins, outs, x) {
+        if is_fault(kinds[x], k, met[x]) {
             return x;
         }
         x += 1;
@@ -399,36 +380,38 @@ fn lowest_fault(kinds: &[u8], ins: &[u16], outs: &[u16]) -> usize
     x
 }
 
-fn fault_in(kinds: &[u8], from: &[u16], to: &[u16], ins: &mut [u16], outs: &mut [u16]) -> usize
-    requires { ⌜ (length (now ins) ≡ length (now kinds)) × (length (now outs) ≡ length (now kinds)) ⌝ }
-    requires { ⌜ Countable (now from) (length (now kinds)) × Countable (now to) (length (now kinds)) ⌝ }
-    ensures { λ r. ⌜ r ≡ faultOf (now (kinds .entry)) (now (from .entry)) (now (to .entry)) ⌝ }
+// The lowest fault by one of the two lists.
+fn fault_by(kinds: &[u8], l: &[u16], k: u8, met: &mut [u8]) -> usize
+    requires { ⌜ (length (now met) ≡ length (now kinds)) × Below (now l) (length (now kinds)) ⌝ }
+    ensures { λ r. ⌜ r ≡ faultBy (now (kinds .entry)) (now (l .entry)) k ⌝ }
 {
-    count_ends(ins, to);
-    count_ends(outs, from);
-    lowest_fault(kinds, ins, outs)
+    mark(met, l);
+    lowest_fault(kinds, k, met)
 }
 
-fn fault_of(kinds: &[u8], from: &[u16], to: &[u16]) -> usize
-    requires { ⌜ length (now kinds) ≤ 1024 ⌝ }
-    requires { ⌜ Countable (now from) (length (now kinds)) × Countable (now to) (length (now kinds)) ⌝ }
+// An input, of kind 0, has no fan-in and no other is without; an output, of kind 2, has no fan-out and no other is without.
+fn fault_of(kinds: &[u8], from: &[u16], to: &[u16], met: &mut [u8]) -> usize
+    requires { ⌜ length (now met) ≡ length (now kinds) ⌝ }
+    requires { ⌜ Below (now from) (length (now kinds)) × Below (now to) (length (now kinds)) ⌝ }
     ensures { λ r. ⌜ r ≡ faultOf (now (kinds .entry)) (now (from .entry)) (now (to .entry)) ⌝ }
 {
-    let n = kinds.len();
-    let mut ins = [0u16; 1024];
-    let mut outs = [0u16; 1024];
-    fault_in(kinds, from, to, &mut ins[..n], &mut outs[..n])
+    let i = fault_by(kinds, to, 0, met);
+    let o = fault_by(kinds, from, 2, met);
+    if o < i {
+        return o;
+    }
+    i
 }
 
 // The verdict on records that were read so, with ENDS.
-fn with_ends(v: Verdict, kinds: &[u8], from: &[u16], to: &[u16]) -> Verdict
-    requires { ⌜ Endable v (now kinds) (now from) (now to) ⌝ }
+fn with_ends(v: Verdict, kinds: &[u8], from: &[u16], to: &[u16], met: &mut [u8]) -> Verdict
+    requires { ⌜ Endable v (now kinds) (now from) (now to) × (length (now met) ≡ 1024) ⌝ }
     ensures { λ r. ⌜ r ≡ endedBy v (now (kinds .entry)) (now (from .entry)) (now (to .entry)) ⌝ }
 {
     let Verdict::Good(n, m) = v else {
         return v;
     };
-    let x = fault_of(&kinds[..n], &from[..m], &to[..m]);
+    let x = fault_of(&kinds[..n], &from[..m], &to[..m], &mut met[..n]);
     if x < n {
         return Verdict::Ends(x);
     }
@@ -438,7 +421,8 @@ fn with_ends(v: Verdict, kinds: &[u8], from: &[u16], to: &[u16]) -> Verdict
 // ---- the netlist
 
 // Judges a file, and decodes a taken one: the kinds, base delays and times of its n components into the first n places of their arrays, and
-// where its m connections come from and go to into the first m of theirs.
+// where its m connections come from and go to into the first m of theirs. `met` is lent for its work: what it
+// holds says nothing, before or after.
 pub fn read_netlist(
     s: &[u8],
     kinds: &mut [u8],
@@ -446,10 +430,11 @@ pub fn read_netlist(
     times: &mut [i32],
     from: &mut [u16],
     to: &mut [u16],
+    met: &mut [u8],
 ) -> Verdict
-    requires { ⌜ LongParts (now kinds) (now bases) (now times) × LongWires (now from) (now to) ⌝ }
+    requires { ⌜ LongParts (now kinds) (now bases) (now times) × LongWires (now from) (now to) × (length (now met) ≡ 1024) ⌝ }
     ensures { λ r. ⌜ Judges (now (s .entry)) r (arrays (now (kinds .exit)) (now (bases .exit)) (now (times .exit)) (now (from .exit)) (now (to .exit))) ⌝ }
 {
     let v = read_records(s, kinds, bases, times, from, to);
-    with_ends(v, kinds, from, to)
+    with_ends(v, kinds, from, to, met)
 }

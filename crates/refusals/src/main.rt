@@ -127,7 +127,16 @@ fn judge_netlist(s: &[u8]) -> Verdict {
     let mut times = [0i32; 1024];
     let mut from = [0u16; 4096];
     let mut to = [0u16; 4096];
-    netlists::read_netlist(s, &mut kinds, &mut bases, &mut times, &mut from, &mut to)
+    let mut met = [0u8; 1024];
+    netlists::read_netlist(
+        s,
+        &mut kinds,
+        &mut bases,
+        &mut times,
+        &mut from,
+        &mut to,
+        &mut met,
+    )
 }
 
 // Against circuit A, whose components 2 and 3 are served.

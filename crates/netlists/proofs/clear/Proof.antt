@@ -11,23 +11,20 @@ use Rattle.netlists.proofs.clear.Statement.{statement}
 use Rattle.netlists.proofs.clear.Tie as tie
 
 -- filled to the end
-filled : (old : List ℕ) (i : ℕ) {cs : List ℕ} → i ≡ length old → cs ≡ replicate i 0 ++ drop i old → cs ≡ replicate (length old) 0
+filled : (old : List ℕ) (i : ℕ) {ms : List ℕ} → i ≡ length old → ms ≡ replicate i 0 ++ drop i old → ms ≡ replicate (length old) 0
 filled old i e q = q ∙ rw (e, drop-length old) (append-nil (replicate (length old) 0))
 
 abbrev Inv-loop : tie.InvT-loop
-Inv-loop counts₀ i₀ counts i = (i ≤ length counts₀) × (length counts ≡ length counts₀) × (counts ≡ replicate i 0 ++ drop i counts₀)
+Inv-loop met₀ i₀ met i = (i ≤ length met₀) × (length met ≡ length met₀) × (met ≡ replicate i 0 ++ drop i met₀)
 
 abbrev μ-loop : tie.MeasureT-loop
-μ-loop counts₀ i₀ counts i = length counts₀ - i
+μ-loop met₀ i₀ met i = length met₀ - i
 
 loop-holds : tie.Need-loop-holds Inv-loop μ-loop
 loop-holds c = (search needs, refl, fill-none _ 0)
 
-mul-counts : tie.Need-mul-counts Inv-loop μ-loop
-mul-counts c = search needs
-
-slice-write-counts : tie.Need-slice-write-counts Inv-loop μ-loop
-slice-write-counts c = search needs
+slice-write-met : tie.Need-slice-write-met Inv-loop μ-loop
+slice-write-met c = search needs
 
 add-i : tie.Need-add-i Inv-loop μ-loop
 add-i c = search needs
@@ -36,13 +33,13 @@ loop-less : tie.Need-loop-less Inv-loop μ-loop
 loop-less c = search needs
 
 loop-again : tie.Need-loop-again Inv-loop μ-loop
-loop-again c = let l = c .before .loop in (search needs, search needs, rw (l .inv .2) (fill-more (l .i) 0 (now (c .before .before .args .counts)) (omega arith)))
+loop-again c = let l = c .before .loop in (search needs, search needs, rw (l .inv .2) (fill-more (l .i) 0 (now (c .before .before .args .met)) (omega arith)))
 
 same-length : tie.Need-same-length Inv-loop μ-loop
 same-length c = search needs
 
 returns : tie.Need-returns Inv-loop μ-loop
-returns c = filled (now (c .before .before .args .counts)) (c .before .loop .i) (omega arith) (c .before .loop .inv .2)
+returns c = filled (now (c .before .before .args .met)) (c .before .loop .i) (omega arith) (c .before .loop .inv .2)
 
 pub clear-spec : {M : Type 1} → statement M
 clear-spec =
@@ -51,8 +48,7 @@ clear-spec =
     Inv-loop
     μ-loop
     loop-holds
-    mul-counts
-    slice-write-counts
+    slice-write-met
     add-i
     loop-less
     loop-again

@@ -1,39 +1,29 @@
-use Prim.Native.Nat.{ℕ}
 use borrow.Author.Needs.{needs}
 use denote.Ref.{now}
-use lib.ListN.{length}
-use mathlib.Core.Path.{sym}
-use Rattle.circuit.specs.ListLaws.{length-first}
+use native.Mathlib.Omega.{arith}
+use Rattle.netlists.specs.MarkLaws.{fault-lesser}
 use Rattle.netlists.proofs.fault_of.Statement.{statement}
 use Rattle.netlists.proofs.fault_of.Tie as tie
 
-array-borrow-prefix-ins : tie.Need-array-borrow-prefix-ins
-array-borrow-prefix-ins c = search needs
+fault-by-requires : tie.Need-fault-by-requires
+fault-by-requires c κs = search needs
 
-slice-aggregate-fault-in : tie.Need-slice-aggregate-fault-in
-slice-aggregate-fault-in c = sym (length-first {A = ℕ} (length (now (c .before .before .before .before .args .kinds))) 1024 0 (c .before .before .before .before .pre .0))
+fault-by-requires-2 : tie.Need-fault-by-requires-2
+fault-by-requires-2 c κs = search needs
 
-array-borrow-prefix-outs : tie.Need-array-borrow-prefix-outs
-array-borrow-prefix-outs c = search needs
-
-slice-aggregate-fault-in-2 : tie.Need-slice-aggregate-fault-in-2
-slice-aggregate-fault-in-2 c = sym (length-first {A = ℕ} (length (now (c .before .before .before .before .before .args .kinds))) 1024 0 (c .before .before .before .before .before .pre .0))
-
-fault-in-requires : tie.Need-fault-in-requires
-fault-in-requires c κs =
-    let e = length-first {A = ℕ} (length (now (c .before .before .before .before .before .args .kinds))) 1024 0 (c .before .before .before .before .before .pre .0) in
-    ((e, e), c .before .before .before .before .before .pre .1)
+same-length : tie.Need-same-length
+same-length c = search needs
 
 returns : tie.Need-returns
-returns c = search needs
+returns c = let a = c .before .before .before .before .before .before .before .before .before .before .before .before .before .args in omega (arith, fault-lesser (now (a .kinds)) (now (a .from)) (now (a .to)))
+
+same-length-2 : tie.Need-same-length-2
+same-length-2 c = search needs
+
+returns-2 : tie.Need-returns-2
+returns-2 c = let a = c .before .before .before .before .before .before .before .before .before .before .before .before .before .args in omega (arith, fault-lesser (now (a .kinds)) (now (a .from)) (now (a .to)))
 
 pub fault-of-spec : {M : Type 1} → statement M
 fault-of-spec =
     tie.close
-    (tie.spec
-    array-borrow-prefix-ins
-    slice-aggregate-fault-in
-    array-borrow-prefix-outs
-    slice-aggregate-fault-in-2
-    fault-in-requires
-    returns)
+    (tie.spec fault-by-requires fault-by-requires-2 same-length returns same-length-2 returns-2)

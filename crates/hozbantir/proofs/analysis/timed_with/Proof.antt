@@ -29,17 +29,17 @@ same-length-4 c = search needs
 same-length-5 : tie.Need-same-length-5
 same-length-5 c = search needs
 
-returns : tie.Need-returns
-returns c = clocked-not (c .before .before .before .before .before .before .before .before .before .before .read-netlist .ensures) (not-good _ (c .before .match .keys2)) (c .refused .ensures)
-
-times-in-requires : tie.Need-times-in-requires
-times-in-requires c κs = let p = c .before .before .before .before .before .before .before .before .before .before .before .before .before .before .before .before .before .before .before .before .before .before .before .before .before .before .before .before .pre in
-    let r = c .before .before .before .before .before .before .before .before .before .before .before .before .before .before .before .before .before .before .read-netlist in
-    let l = r .kept .1 in
-    (kept-filled (c .before .before .before .before .before .before .before .before .v .given .1) (r .ensures) (p .0) (p .1) (l .0) (l .1 .0) (l .1 .1 .0) (l .1 .1 .1 .0) (l .1 .1 .1 .1 .0), p .2, p .3)
-
 same-length-6 : tie.Need-same-length-6
 same-length-6 c = search needs
+
+returns : tie.Need-returns
+returns c = clocked-not (c .before .before .before .before .before .before .before .before .before .before .before .before .read-netlist .ensures) (not-good _ (c .before .match .keys2)) (c .refused .ensures)
+
+times-in-requires : tie.Need-times-in-requires
+times-in-requires c κs = let p = c .before .before .before .before .before .before .before .before .before .before .before .before .before .before .before .before .before .before .before .before .before .before .before .before .before .before .before .before .before .before .before .before .pre in
+    let r = c .before .before .before .before .before .before .before .before .before .before .before .before .before .before .before .before .before .before .before .before .read-netlist in
+    let l = r .kept .1 in
+    (kept-filled (c .before .before .before .before .before .before .before .before .v .given .1) (r .ensures) (p .0) (p .1) (l .0) (l .1 .0) (l .1 .1 .0) (l .1 .1 .1 .0) (l .1 .1 .1 .1 .0), p .2, p .3)
 
 same-length-7 : tie.Need-same-length-7
 same-length-7 c = search needs
@@ -59,8 +59,14 @@ same-length-11 c = search needs
 same-length-12 : tie.Need-same-length-12
 same-length-12 c = search needs
 
+same-length-13 : tie.Need-same-length-13
+same-length-13 c = search needs
+
+same-length-14 : tie.Need-same-length-14
+same-length-14 c = search needs
+
 returns-2 : tie.Need-returns-2
-returns-2 c = clocked-good (c .before .before .before .before .before .before .before .before .before .before .before .before .before .before .before .before .before .before .before .before .before .read-netlist .ensures) (c .before .before .before .before .before .before .before .before .before .before .before .v .given .1) (c .before .before .times-in .ensures)
+returns-2 c = clocked-good (c .before .before .before .before .before .before .before .before .before .before .before .before .before .before .before .before .before .before .before .before .before .before .before .read-netlist .ensures) (c .before .before .before .before .before .before .before .before .before .before .before .v .given .1) (c .before .before .times-in .ensures)
 
 pub timed-with-spec : {M : Type 1} → statement M
 timed-with-spec =
@@ -74,13 +80,15 @@ timed-with-spec =
     same-length-3
     same-length-4
     same-length-5
+    same-length-6
     returns
     times-in-requires
-    same-length-6
     same-length-7
     same-length-8
     same-length-9
     same-length-10
     same-length-11
     same-length-12
+    same-length-13
+    same-length-14
     returns-2)

@@ -1,3 +1,4 @@
+use mathlib.Core.Path.{_∙_}
 use Rattle.hozbantir.specs.Budgeting.{mode-known, mode-unknown}
 use Rattle.hozbantir.specs.CallLaws.{budgets-mode, budgets-refused, budgets-taken}
 use Rattle.hozbantir.specs.Tags.{not-good}
@@ -33,19 +34,20 @@ same-length-4 c = search needs
 same-length-5 : tie.Need-same-length-5
 same-length-5 c = search needs
 
-returns-2 : tie.Need-returns-2
-returns-2 c = budgets-refused (c .before .before .before .before .before .before .before .before .before .before .read-netlist .ensures) (not-good _ (c .before .match .keys2)) (c .refused .ensures) _ _ (mode-known (c .before .before .before .before .before .before .before .before .before .before .before .before .before .before .before .before .if1 .left))
-
-budget-in-requires : tie.Need-budget-in-requires
-budget-in-requires c κs = let p = c .before .before .before .before .before .before .before .before .before .before .before .before .before .before .before .before .before .before .before .before .before .before .before .before .before .before .before .before .before .pre in
-    let r = c .before .before .before .before .before .before .before .before .before .before .before .before .before .before .before .before .before .read-netlist in
-    let l = r .kept .1 in (
-      kept-filled (c .before .before .before .before .before .before .before .v .given .1) (r .ensures) (p .0) (p .1) (l .0) (l .1 .0) (l .1 .1 .0) (l .1 .1 .1 .0) (l .1 .1 .1 .1 .0),
-      c .before .before .before .before .before .before .before .before .before .before .before .before .before .before .before .before .before .before .before .before .before .before .before .if1 .left,
-    )
-
 same-length-6 : tie.Need-same-length-6
 same-length-6 c = search needs
+
+returns-2 : tie.Need-returns-2
+returns-2 c = budgets-refused (c .before .before .before .before .before .before .before .before .before .before .before .before .read-netlist .ensures) (not-good _ (c .before .match .keys2)) (c .refused .ensures) _ _ (mode-known (c .before .before .before .before .before .before .before .before .before .before .before .before .before .before .before .before .before .before .before .if1 .left))
+
+budget-in-requires : tie.Need-budget-in-requires
+budget-in-requires c κs = let p = c .before .before .before .before .before .before .before .before .before .before .before .before .before .before .before .before .before .before .before .before .before .before .before .before .before .before .before .before .before .before .before .before .before .before .pre in
+    let r = c .before .before .before .before .before .before .before .before .before .before .before .before .before .before .before .before .before .before .before .before .read-netlist in
+    let l = r .kept .1 in (
+      kept-filled (c .before .before .before .before .before .before .before .before .v .given .1) (r .ensures) (p .0) (p .1) (l .0) (l .1 .0) (l .1 .1 .0) (l .1 .1 .1 .0) (l .1 .1 .1 .1 .0),
+      c .before .before .before .before .before .before .before .before .before .before .before .before .before .before .before .before .before .before .before .before .before .before .before .before .before .before .before .if1 .left,
+      l .1 .1 .1 .1 .1 .0 ∙ p .2,
+    )
 
 same-length-7 : tie.Need-same-length-7
 same-length-7 c = search needs
@@ -62,8 +64,14 @@ same-length-10 c = search needs
 same-length-11 : tie.Need-same-length-11
 same-length-11 c = search needs
 
+same-length-12 : tie.Need-same-length-12
+same-length-12 c = search needs
+
+same-length-13 : tie.Need-same-length-13
+same-length-13 c = search needs
+
 returns-3 : tie.Need-returns-3
-returns-3 c = budgets-taken (c .before .before .before .before .before .before .before .before .before .before .before .before .before .before .before .before .before .before .before .before .read-netlist .ensures) (c .before .before .before .before .before .before .before .before .before .before .v .given .1) _ (mode-known (c .before .before .before .before .before .before .before .before .before .before .before .before .before .before .before .before .before .before .before .before .before .before .before .before .before .before .if1 .left)) (c .before .before .budget-in .ensures)
+returns-3 c = budgets-taken (c .before .before .before .before .before .before .before .before .before .before .before .before .before .before .before .before .before .before .before .before .before .before .before .before .before .read-netlist .ensures) (c .before .before .before .before .before .before .before .before .before .before .before .before .before .v .given .1) _ (mode-known (c .before .before .before .before .before .before .before .before .before .before .before .before .before .before .before .before .before .before .before .before .before .before .before .before .before .before .before .before .before .before .before .before .if1 .left)) (c .before .before .before .before .budget-in .ensures)
 
 pub budget-with-spec : {M : Type 1} → statement M
 budget-with-spec =
@@ -78,12 +86,14 @@ budget-with-spec =
     same-length-3
     same-length-4
     same-length-5
+    same-length-6
     returns-2
     budget-in-requires
-    same-length-6
     same-length-7
     same-length-8
     same-length-9
     same-length-10
     same-length-11
+    same-length-12
+    same-length-13
     returns-3)

@@ -30,19 +30,19 @@ same-length-4 c = search needs
 same-length-5 : tie.Need-same-length-5
 same-length-5 c = search needs
 
+same-length-6 : tie.Need-same-length-6
+same-length-6 c = search needs
+
 returns : tie.Need-returns
-returns c = both-not (c .before .before .before .before .before .before .before .before .before .before .read-netlist .ensures) _ (not-good _ (c .before .match .keys2)) (c .refused .ensures)
+returns c = both-not (c .before .before .before .before .before .before .before .before .before .before .before .before .read-netlist .ensures) _ (not-good _ (c .before .match .keys2)) (c .refused .ensures)
 
 judge-in-requires : tie.Need-judge-in-requires
-judge-in-requires c κs = let p = c .before .before .before .before .before .before .before .before .before .before .before .before .before .before .before .before .before .before .before .before .before .before .before .before .before .before .before .before .pre in
-    let r = c .before .before .before .before .before .before .before .before .before .before .before .before .before .before .before .read-netlist in
+judge-in-requires c κs = let p = c .before .before .before .before .before .before .before .before .before .before .before .before .before .before .before .before .before .before .before .before .before .before .before .before .before .before .before .before .before .before .before .pre in
+    let r = c .before .before .before .before .before .before .before .before .before .before .before .before .before .before .before .before .before .read-netlist in
     let l = r .kept .1 in
     let f = kept-filled (c .before .before .before .before .before .v .given .1) (r .ensures) (p .0) (p .1) (l .0) (l .1 .0) (l .1 .1 .0) (l .1 .1 .1 .0) (l .1 .1 .1 .1 .0) in
     let few = filled-few f in
-    record { few = few; kinds-all = f .kinds-all; bases-all = f .bases-all; marks-all = omega (arith, p .2); incs-all = omega (arith, p .3) }
-
-same-length-6 : tie.Need-same-length-6
-same-length-6 c = search needs
+    record { few = few; kinds-all = f .kinds-all; bases-all = f .bases-all; marks-all = omega (arith, p .2, l .1 .1 .1 .1 .1 .0); incs-all = omega (arith, p .3) }
 
 same-length-7 : tie.Need-same-length-7
 same-length-7 c = search needs
@@ -62,9 +62,12 @@ same-length-11 c = search needs
 same-length-12 : tie.Need-same-length-12
 same-length-12 c = search needs
 
+same-length-13 : tie.Need-same-length-13
+same-length-13 c = search needs
+
 returns-2 : tie.Need-returns-2
-returns-2 c = let p = c .before .before .before .before .before .before .before .before .before .before .before .before .before .before .before .before .before .before .before .before .before .before .before .before .before .before .before .before .before .before .before .before .before .pre in
-    let r = c .before .before .before .before .before .before .before .before .before .before .before .before .before .before .before .before .before .before .before .before .read-netlist in
+returns-2 c = let p = c .before .before .before .before .before .before .before .before .before .before .before .before .before .before .before .before .before .before .before .before .before .before .before .before .before .before .before .before .before .before .before .before .before .before .before .before .pre in
+    let r = c .before .before .before .before .before .before .before .before .before .before .before .before .before .before .before .before .before .before .before .before .before .before .read-netlist in
     let l = r .kept .1 in
     both-heard (r .ensures) _ (c .before .before .before .before .before .before .before .before .before .before .v .given .1) (kept-filled (c .before .before .before .before .before .before .before .before .before .before .v .given .1) (r .ensures) (p .0) (p .1) (l .0) (l .1 .0) (l .1 .1 .0) (l .1 .1 .1 .0) (l .1 .1 .1 .1 .0) .kinds-all) (c .before .before .before .before .judge-in .ensures)
 
@@ -80,13 +83,14 @@ judge-both-spec =
     same-length-3
     same-length-4
     same-length-5
+    same-length-6
     returns
     judge-in-requires
-    same-length-6
     same-length-7
     same-length-8
     same-length-9
     same-length-10
     same-length-11
     same-length-12
+    same-length-13
     returns-2)
