@@ -47,13 +47,13 @@ module _ (a r : List ℤ) where
 -- ---- the times of a netlist
 
 -- arrivals and required times at base delays
-pub record Timed (n : Netlist) (b arr req : List ℤ) : Type 0 where
+pub record AtBase (n : Netlist) (b arr req : List ℤ) : Type 0 where
   pub arrived : arr ≡ arrivals n b
   pub due : req ≡ requireds n b
 
 -- times that were put in the first k places of their arrays
-pub timed-front : {n : Netlist} {b arr req : List ℤ} {k : ℕ} (arr₀ req₀ : List ℤ) → length arr ≡ k → length req ≡ k → Timed n b arr req
-    → Timed n b (take k (arr ++ drop k arr₀)) (take k (req ++ drop k req₀))
+pub timed-front : {n : Netlist} {b arr req : List ℤ} {k : ℕ} (arr₀ req₀ : List ℤ) → length arr ≡ k → length req ≡ k → AtBase n b arr req
+    → AtBase n b (take k (arr ++ drop k arr₀)) (take k (req ++ drop k req₀))
 timed-front {arr = arr} {req} {k} arr₀ req₀ f g t = rw (take-at arr (drop k arr₀) k f, take-at req (drop k req₀) k g) t
 
 module _ {n : Netlist} {b : List ℤ} (g : Taken n b) where
@@ -63,7 +63,7 @@ module _ {n : Netlist} {b : List ℤ} (g : Taken n b) where
   narrow : Narrow (arrivals n b) (requireds n b)
   narrow = record { at = λ x h. let r = slack-range (clock (g .accepted)) (g .based) x (rw (length-arrivals n b) at h) in record { upper = omega whole; lower = omega whole } }
 
-  module _ {arr req : List ℤ} (t : Timed n b arr req) where
+  module _ {arr req : List ℤ} (t : AtBase n b arr req) where
     -- their slacks can be taken, and go into 32 bits
     timed-gauged : Gauged arr req
     timed-gauged = rw (t .arrived, t .due) (times-gauged taken-ready)
@@ -80,13 +80,13 @@ module _ {n : Netlist} {b : List ℤ} (g : Taken n b) where
 -- how the netlist s was judged; where it was taken, the first places of the arrays hold its times
 pub record Clocked (s : List ℕ) (r : Answer) (arr req : List ℤ) : Type 0 where
   pub answer : r ≡ takenOf s
-  pub held : {n : ℕ} → r ≡ Done n → Timed (netOn (boardOf s)) (boardOf s .bases) (take n arr) (take n req)
+  pub held : {n : ℕ} → r ≡ Done n → AtBase (netOn (boardOf s)) (boardOf s .bases) (take n arr) (take n req)
 
 module _ {s : List ℕ} {v : Verdict} {a : Arrays} (j : Judges s v a) {arr req : List ℤ} where
   pub clocked-not : {r : Answer} → ((n m : ℕ) → v ≡ J.Good n m → ⊥) → r ≡ onVerdict v (Done 0) → Clocked s r arr req
   clocked-not h e = let (f, g) = taken-refused j h e in record { answer = f; held = λ {n} d. absurd (g n d) }
 
-  pub clocked-good : {n m : ℕ} → v ≡ J.Good n m → Timed (netIn n m a) (take n (a .bs)) (take n arr) (take n req) → Clocked s (Done n) arr req
+  pub clocked-good : {n m : ℕ} → v ≡ J.Good n m → AtBase (netIn n m a) (take n (a .bs)) (take n arr) (take n req) → Clocked s (Done n) arr req
   clocked-good {n} {m} e t = record { answer = taken-done j e; held = λ {n = k} d. rw (sym (ap placeOf d)) (rw (b .kinds, b .times, b .froms, b .tos, b .bases) at t) }
     where
       b : Board-in (boardOf s) n m a

@@ -6,7 +6,7 @@ ghost use Rattle.netlists.specs.Held.{arrays, LongParts, LongWires};
 ghost use Rattle.hozbantir.specs.Answers.{inRoom, Leaves};
 ghost use Rattle.hozbantir.specs.Calls.{Analyses};
 ghost use Rattle.hozbantir.specs.Taken.{Taken, netIn, Filled};
-ghost use Rattle.hozbantir.specs.Slacks.{slacksBy, Timed, Clocked, Paired};
+ghost use Rattle.hozbantir.specs.Slacks.{slacksBy, AtBase, Clocked, Paired};
 use crate::answers::Answer;
 use crate::answers::refused;
 use netlists::Verdict;
@@ -22,7 +22,7 @@ fn times_on(
     to: &[u16],
 )
     requires { ⌜ Taken (netlist (now kinds) (now times) (now from) (now to)) (now bases) × (length (now arr) ≡ length (now kinds)) × (length (now req) ≡ length (now kinds)) ⌝ }
-    ensures { λ _. ⌜ Timed (netlist (now (kinds .entry)) (now (times .entry)) (now (from .entry)) (now (to .entry))) (now (bases .entry)) (now (arr .exit)) (now (req .exit)) ⌝ }
+    ensures { λ _. ⌜ AtBase (netlist (now (kinds .entry)) (now (times .entry)) (now (from .entry)) (now (to .entry))) (now (bases .entry)) (now (arr .exit)) (now (req .exit)) ⌝ }
 {
     timing::arrivals_in(arr, kinds, times, bases, from, to);
     timing::required_in(req, kinds, times, bases, from, to);
@@ -41,7 +41,7 @@ fn times_in(
     to: &[u16],
 )
     requires { ⌜ Filled n m (arrays (now kinds) (now bases) (now times) (now from) (now to)) × (length (now arr) ≡ 1024) × (length (now req) ≡ 1024) ⌝ }
-    ensures { λ _. ⌜ Timed (netIn n m (arrays (now (kinds .entry)) (now (bases .entry)) (now (times .entry)) (now (from .entry)) (now (to .entry)))) (take n (now (bases .entry))) (take n (now (arr .exit))) (take n (now (req .exit))) ⌝ }
+    ensures { λ _. ⌜ AtBase (netIn n m (arrays (now (kinds .entry)) (now (bases .entry)) (now (times .entry)) (now (from .entry)) (now (to .entry)))) (take n (now (bases .entry))) (take n (now (arr .exit))) (take n (now (req .exit))) ⌝ }
 {
     times_on(
         &mut arr[..n],
@@ -77,7 +77,7 @@ fn timed_with(
     Answer::Done(n)
 }
 
-// The arrays that the netlist is decoded into last no longer than the times are worked out.
+// The same, with the arrays to decode into and the marks that ENDS works in.
 pub fn timed(netlist: &[u8], arr: &mut [i64], req: &mut [i64]) -> Answer
     requires { ⌜ (length (now arr) ≡ 1024) × (length (now req) ≡ 1024) ⌝ }
     ensures { λ r. ⌜ Clocked (now (netlist .entry)) r (now (arr .exit)) (now (req .exit)) ⌝ }

@@ -78,7 +78,7 @@ fn judge_both(
     judge_in(n, result, kinds, bases, served, incs)
 }
 
-// The arrays that only the judging needs last no longer than it.
+// The same, with the arrays that only the judging needs.
 pub fn judged(
     netlist: &[u8],
     result: &[u8],

@@ -421,8 +421,7 @@ fn with_ends(v: Verdict, kinds: &[u8], from: &[u16], to: &[u16], met: &mut [u8])
 // ---- the netlist
 
 // Judges a file, and decodes a taken one: the kinds, base delays and times of its n components into the first n places of their arrays, and
-// where its m connections come from and go to into the first m of theirs. `met` is lent for its work: what it
-// holds says nothing, before or after.
+// where its m connections come from and go to into the first m of theirs. ENDS works in `met`: what it holds says nothing, before or after.
 pub fn read_netlist(
     s: &[u8],
     kinds: &mut [u8],

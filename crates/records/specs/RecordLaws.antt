@@ -1,10 +1,9 @@
--- What a found record says of the file, where one is found, and what is read in its contents.
+-- What a found record says of the file, where one is found, and how long its contents are.
 use mathlib.Core.Path.{_≡_, refl, sym}
 use mathlib.Core.List.{List}
 use Prim.Native.Nat.{ℕ, _+_, _≤_, _<_}
 use native.Mathlib.Omega.{arith}
 use lib.ListN.{length, getD, length-take, length-drop}
-use lib.Seq.{getD-take, getD-drop}
 use Rattle.whole.specs.Pick.{if-yes, if-no, if-cases}
 use Rattle.whole.specs.Bytes.{numberAt}
 use Rattle.records.specs.declared.Found.{Found}
@@ -55,9 +54,5 @@ module _ (s : List ℕ) (at : ℕ) where
 
 -- ---- the contents, as a part of the file
 
-module _ (s : List ℕ) (a n : ℕ) where
-  pub part-length : a + n ≤ length s → length (partOf s a n) ≡ n
-  part-length h = simp (length-take, length-drop) (omega arith)
-
-  pub part-byte : (i : ℕ) → i < n → getD (partOf s a n) i 0 ≡ getD s (a + i) 0
-  part-byte i h = rw (getD-take, getD-drop)
+pub part-length : (s : List ℕ) (a n : ℕ) → a + n ≤ length s → length (partOf s a n) ≡ n
+part-length s a n h = simp (length-take, length-drop) (omega arith)

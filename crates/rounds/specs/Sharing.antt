@@ -33,15 +33,18 @@ lifted-ready {sv = sv} {b = b} s u h =
 
 -- ---- how large a share can be
 
-kept-most : (c : Bool) (t p v : ℕ) → v < cond c (t + p) t + p → v < t + (p + p)
-kept-most true t p v h = omega arith
-kept-most false t p v h = omega arith
+-- whether its bit is kept or not, there is room for the bits behind it
+kept-room : (c : Bool) (t p q : ℕ) → t + (p + p) ≤ q → cond c (t + p) t + p ≤ q
+kept-room true t p q h = omega arith
+kept-room false t p q h = omega arith
 
 -- k bits add less than 2^k
 descend-most : (n : Netlist) (sv : List ℕ) (b : List ℤ) (k t : ℕ) → descend n sv b k t < t + 2 ^ k
 unfolding descend
 descend-most n sv b zero t = omega arith
-descend-most n sv b (suc k) t = rw (two-pow-succ k) (kept-most (inTime n (lifted sv (t + 2 ^ k) b)) t (2 ^ k) _ (descend-most n sv b k _))
+descend-most n sv b (suc k) t =
+    let c = inTime n (lifted sv (t + 2 ^ k) b) in
+    omega (arith, two-pow-succ k, descend-most n sv b k (cond c (t + 2 ^ k) t), kept-room c t (2 ^ k) (t + (2 ^ k + 2 ^ k)) (omega arith))
 
 or-none : (c : Bool) {x y : ℕ} → x < y → cond c 0 x < y
 or-none true h = omega arith
@@ -79,10 +82,6 @@ some (suc k) = omega (arith, two-pow-succ k, some k)
 pub descending-room : {n : Netlist} {sv : List ℕ} {b : List ℤ} {t bit k : ℕ} → Descending n sv b t bit k → 0 < k → t + bit < 2 ^ 28
 descending-room {k = zero} s h = absurd (omega arith)
 descending-room {k = suc k} s h = let f = s .first ∙ half k in let r = s .room in omega (arith, two-pow-succ k, some k)
-
-kept-room : (c : Bool) (t p q : ℕ) → t + (p + p) ≤ q → cond c (t + p) t + p ≤ q
-kept-room true t p q h = omega arith
-kept-room false t p q h = omega arith
 
 pub descending-next : {n : Netlist} {sv : List ℕ} {b : List ℤ} {t bit k t′ : ℕ} → Descending n sv b t bit k → 0 < k → t′ ≡ cond (inTime n (lifted sv (t + bit) b)) (t + bit) t → Descending n sv b t′ (bit / 2) (k - 1)
 unfolding descend

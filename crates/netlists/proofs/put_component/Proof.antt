@@ -5,7 +5,8 @@ use mathlib.Core.Path.{ap, _∙_, refl}
 use mir.Syntax.{w32}
 use mir.ValLaws.{toZ-ofZ}
 use native.Mathlib.Omega.{arith}
-use Rattle.whole.specs.Range.{via, via32}
+use Rattle.whole.specs.Range.{via}
+use Rattle.whole.specs.BitsLaws.{via32}
 use Rattle.netlists.proofs.put_component.Statement.{statement}
 use Rattle.netlists.proofs.put_component.Tie as tie
 

@@ -1,5 +1,5 @@
 use Rattle.results.specs.Bounds.{read-at}
-use Rattle.whole.specs.Range.{back32}
+use Rattle.whole.specs.BitsLaws.{back32}
 use borrow.Author.Needs.{needs}
 use mathlib.Core.Path.{_∙_, sym}
 use Rattle.results.proofs.bound_read.Statement.{statement}

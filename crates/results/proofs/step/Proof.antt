@@ -1,5 +1,5 @@
 use Rattle.results.specs.Judging.{step-bound, step-none}
-use Rattle.whole.specs.Range.{back32}
+use Rattle.whole.specs.BitsLaws.{back32}
 use borrow.Author.Needs.{needs}
 use borrow.Author.Tests.{eq-eqb, ne-eqb}
 use mathlib.Core.Path.{_∙_}

@@ -1,7 +1,8 @@
 use Prim.Native.Nat.{_-_, _≤_}
 use Rattle.circuit.specs.Times.{anchor}
 use Rattle.timing.specs.Fill.{Filling, filling-ends, filling-next, filling-starts}
-use Rattle.whole.specs.Range.{back32, via}
+use Rattle.whole.specs.Range.{via}
+use Rattle.whole.specs.BitsLaws.{back32}
 use borrow.Author.Needs.{needs}
 use lib.ListN.{length}
 use mathlib.Core.Path.{_∙_}

@@ -1,4 +1,5 @@
-use Rattle.whole.specs.Range.{back, back32, via}
+use Rattle.whole.specs.Range.{back, via}
+use Rattle.whole.specs.BitsLaws.{back32}
 use borrow.Author.Needs.{needs}
 use Rattle.timing.proofs.lower.Statement.{statement}
 use Rattle.timing.proofs.lower.Tie as tie

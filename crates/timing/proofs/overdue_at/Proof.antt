@@ -1,5 +1,6 @@
 use Rattle.circuit.specs.Times.{overdue}
-use Rattle.whole.specs.Range.{back, back32, via}
+use Rattle.whole.specs.Range.{back, via}
+use Rattle.whole.specs.BitsLaws.{back32}
 use borrow.Author.Needs.{needs}
 use mathlib.Core.Path.{_∙_}
 use Rattle.timing.proofs.overdue_at.Statement.{statement}

@@ -1,4 +1,5 @@
-use Rattle.whole.specs.Range.{via, via32, mag-is}
+use Rattle.whole.specs.Range.{via, mag-is}
+use Rattle.whole.specs.BitsLaws.{via32}
 use borrow.Author.Needs.{needs}
 use mathlib.Core.Path.{_∙_}
 use mir.ValLaws.{toZ-ofZ}

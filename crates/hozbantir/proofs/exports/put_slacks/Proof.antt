@@ -1,6 +1,7 @@
 use Rattle.hozbantir.specs.Slacks.{slacksBy, length-by, slack-by}
 use Rattle.hozbantir.specs.Spreading.{Spreading, spreading-starts, spreading-next, spreading-ends}
-use Rattle.whole.specs.Range.{via, via32}
+use Rattle.whole.specs.Range.{via}
+use Rattle.whole.specs.BitsLaws.{via32}
 use Prim.Native.Nat.{_-_, _≤_}
 use denote.Ref.{now}
 use lib.ListN.{length}

@@ -1,4 +1,4 @@
-use Rattle.whole.specs.Range.{back32}
+use Rattle.whole.specs.BitsLaws.{back32}
 use mathlib.Core.Path.{_∙_}
 use borrow.Author.Needs.{needs}
 use Rattle.rounds.proofs.increments.rise_at.Statement.{statement}

@@ -2,7 +2,7 @@ use Prim.Native.Nat.{_-_, _≤_}
 use Rattle.circuit.specs.DescentLaws.{length-lifted, lifted-at}
 use Rattle.circuit.specs.Share.{lifted}
 use Rattle.whole.specs.Fill.{Filling, filling-ends, filling-next, filling-starts}
-use Rattle.whole.specs.Range.{via32}
+use Rattle.whole.specs.BitsLaws.{via32}
 use borrow.Author.Needs.{needs}
 use lib.IntN.{pos}
 use lib.ListN.{length}

@@ -1,4 +1,4 @@
-use Rattle.whole.specs.Range.{back32, via32}
+use Rattle.whole.specs.BitsLaws.{back32, via32}
 use Rattle.whole.specs.Whole.{sum}
 use Rattle.circuit.specs.Lists.{at}
 use Rattle.circuit.specs.Netlist.{marked}

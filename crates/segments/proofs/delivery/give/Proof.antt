@@ -1,4 +1,4 @@
-use Rattle.whole.specs.Range.{back32, via32}
+use Rattle.whole.specs.BitsLaws.{back32, via32}
 use borrow.Author.Needs.{needs}
 use Rattle.segments.proofs.delivery.give.Statement.{statement}
 use Rattle.segments.proofs.delivery.give.Tie as tie

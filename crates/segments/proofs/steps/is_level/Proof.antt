@@ -1,5 +1,6 @@
 use Rattle.circuit.specs.Rounds.{level}
-use Rattle.whole.specs.Range.{back, back32}
+use Rattle.whole.specs.Range.{back}
+use Rattle.whole.specs.BitsLaws.{back32}
 use borrow.Author.Needs.{needs}
 use mathlib.Core.Path.{_∙_}
 use Rattle.segments.proofs.steps.is_level.Statement.{statement}
