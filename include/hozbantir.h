@@ -140,9 +140,10 @@
  * allowed with length 0 and counts as an empty slice. No alignment is asked for.
  *
  * Stack needed by each call, in bytes:
- *   analyse 65,536, budget 77,824, read back 53,248
- * Measured on a painted stack at 1,024 components and 4,096 connections: 58,647, 72,215 and 47,399.
- * The numbers above are multiples of 4,096 which leave 4,096 bytes or more to spare.
+ *   analyse 49,152, budget 61,440, read back 36,864
+ * Measured on a painted stack at 1,024 components and 4,096 connections: 43,287, 55,607 and 31,015.
+ * The numbers above are multiples of 4,096 which leave 4,096 bytes or more to spare. A program's
+ * first call took 3,120 more where memset is bound on first use, which is within what is spared.
  *
  *
  * EXAMPLE
@@ -183,7 +184,7 @@ extern "C" {
 #endif
 
 /* The number of the landing (docs/landings) is the minor part. */
-#define HOZBANTIR_VERSION "0.2"
+#define HOZBANTIR_VERSION "0.3"
 
 /* The two parts of an answer. */
 #define HOZBANTIR_NUMBER(answer) ((uint32_t)((uint64_t)(answer) >> 32))
