@@ -1,4 +1,6 @@
 // Prints the budget of a netlist in both modes. Reads at most 65,536 bytes from standard input, and judges those.
+#![tactic(auto)]
+
 ghost use Rattle.std.specs.Prelude.{◌+◌, ◌≤◌, length};
 
 use hozbantir::Answer;

@@ -7,8 +7,8 @@ use Rattle.circuit.specs.Circuit.{LeastThrough}
 use Rattle.circuit.specs.Lists.{at}
 use Rattle.circuit.specs.Netlist.{circuit_of}
 use Rattle.circuit.specs.Times.{slacks}
-use Rattle.circuit.specs.ClockLaws.{clock, slacks_least}
-use Rattle.circuit.specs.SafeLaws.{based_bounded}
+use Rattle.circuit.proofs.ClockLaws.{clock, slacks_least}
+use Rattle.circuit.proofs.SafeLaws.{based_bounded}
 use Rattle.netlists.specs.Judge.{net_on, board_of}
 use Rattle.hozbantir.specs.declared.answers.Answer.TheVariants.{Done}
 use Rattle.hozbantir.specs.AnswerLaws.{done_taken, done_written}

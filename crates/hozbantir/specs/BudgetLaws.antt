@@ -3,11 +3,11 @@ use Rattle.std.specs.Prelude.{◌≡◌, refl, false, List, ℕ, ◌≤◌, ℤ,
 use Rattle.std.proofs.Common.{sym, ap, ◌∙◌, zero-add, arith, take_at, le-leb, leb-true}
 use Rattle.std.proofs.Math.Decide.{ℕ_discrete}
 use Rattle.whole.specs.Pick.{is, if?, if_cases}
-use Rattle.circuit.specs.ListLaws.{clash}
+use Rattle.circuit.proofs.ListLaws.{clash}
 use Rattle.circuit.specs.Netlist.{Netlist, kind, served_of, serves}
-use Rattle.circuit.specs.ServedLaws.{length-served, serves_yes}
+use Rattle.circuit.proofs.ServedLaws.{length-served, serves_yes}
 use Rattle.circuit.specs.Budget.{known, Outcome, LateAt, Budgeted, budget_of}
-use Rattle.circuit.specs.OutcomeLaws.{OfMode, budget_says, rounds_most, increments_most, increments_all, increments_none, share_plain, share_small}
+use Rattle.circuit.proofs.OutcomeLaws.{OfMode, budget_says, rounds_most, increments_most, increments_all, increments_none, share_plain, share_small}
 use Rattle.netlists.specs.Judge.{net_on, board_of}
 use Rattle.results.specs.Result.{encode, needed, told_of, increments_of}
 use Rattle.results.specs.Round.{said_summary, Sayable, told_back, increments_back}

@@ -2,9 +2,9 @@
 use Rattle.std.specs.Prelude.{◌≡◌, refl, true, false, List, ◌++◌, ℕ, ◌<◌, ◌≤◌, ℤ, length, drop}
 use Rattle.std.proofs.Common.{sym, ◌∙◌, arith, le-leb}
 use Rattle.std.proofs.lemmas.Bool.{lt-leb}
-use Rattle.circuit.specs.ListLaws.{count_le}
+use Rattle.circuit.proofs.ListLaws.{count_le}
 use Rattle.circuit.specs.Netlist.{Netlist, parts, served_of, serves}
-use Rattle.circuit.specs.ServedLaws.{length-served}
+use Rattle.circuit.proofs.ServedLaws.{length-served}
 use Rattle.circuit.specs.Budget.{known, budget_of}
 use Rattle.rounds.specs.declared.budgets.Outcome.{Outcome}
 use Rattle.rounds.specs.declared.budgets.Outcome.TheVariants as O

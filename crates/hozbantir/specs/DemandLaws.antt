@@ -11,10 +11,10 @@ use Rattle.circuit.specs.Circuit as C
 use Rattle.circuit.specs.Lists.{at}
 use Rattle.circuit.specs.Netlist.{parts, served_of}
 use Rattle.circuit.specs.Times.{lowest_late}
-use Rattle.circuit.specs.ServedLaws.{length-served, serves_no, serves_yes}
+use Rattle.circuit.proofs.ServedLaws.{length-served, serves_no, serves_yes}
 use Rattle.circuit.specs.Budget.{Outcome, budget_of}
 use Rattle.circuit.specs.Demand.{Demand3}
-use Rattle.circuit.specs.OutcomeLaws.{late_says, late_path, ends, rounds_most, share_plain, share_even, demand3}
+use Rattle.circuit.proofs.OutcomeLaws.{late_says, late_path, ends, rounds_most, share_plain, share_even, demand3}
 use Rattle.netlists.specs.Judge.{board_of}
 use Rattle.results.specs.Result.{bound_on, bounds_read}
 use Rattle.results.specs.Bounds.{length-read, read_at}

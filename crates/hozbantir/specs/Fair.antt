@@ -2,9 +2,9 @@
 use Rattle.std.specs.Prelude.{◌≡◌, refl, List, [], ℕ, ◌≤◌, ◌<◌, ℤ, length}
 use Rattle.std.proofs.Common.{◌∙◌, arith}
 use Rattle.whole.specs.Pick.{lt, eq, is, if_cases}
-use Rattle.circuit.specs.ListLaws.{count_le}
+use Rattle.circuit.proofs.ListLaws.{count_le}
 use Rattle.circuit.specs.Netlist.{Netlist, parts, served_of, marked}
-use Rattle.circuit.specs.ServedLaws.{length-served}
+use Rattle.circuit.proofs.ServedLaws.{length-served}
 use Rattle.circuit.specs.Times.{slacks}
 use Rattle.circuit.specs.Budget.{known, Outcome, LateAt, Budgeted, budget_of}
 use Rattle.netlists.specs.declared.Verdict.{Verdict}

@@ -2,7 +2,7 @@
 use Rattle.std.specs.Prelude.{◌≡◌, List, ℕ, length}
 use Rattle.std.proofs.Common.{sym, ◌∙◌}
 use Rattle.circuit.specs.Circuit.{InTime}
-use Rattle.circuit.specs.OutcomeLaws.{ends}
+use Rattle.circuit.proofs.OutcomeLaws.{ends}
 use Rattle.hozbantir.specs.declared.answers.Answer.TheVariants.{Done}
 use Rattle.hozbantir.specs.Calls.{taken_of}
 use Rattle.hozbantir.specs.Exports.{room_in, SendsAnalysis, SendsBudget, SendsBounds}

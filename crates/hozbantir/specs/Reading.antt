@@ -3,7 +3,7 @@ use Rattle.std.specs.Prelude.{◌≡◌, refl, List, ◌++◌, ℕ, ◌≤◌, �
 use Rattle.std.proofs.Math.Path.{sym, ap}
 use Rattle.std.proofs.Common.{◌∙◌, arith, length-take-le, take_at}
 use Rattle.circuit.specs.Netlist.{served_of}
-use Rattle.circuit.specs.ServedLaws.{length-served}
+use Rattle.circuit.proofs.ServedLaws.{length-served}
 use Rattle.netlists.specs.declared.Verdict.{Verdict}
 use Rattle.netlists.specs.declared.Verdict.TheVariants as J
 use Rattle.netlists.specs.Judge.{net_on, board_of, judge_of}

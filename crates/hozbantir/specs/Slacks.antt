@@ -3,12 +3,12 @@ use Rattle.std.specs.Prelude.{◌≡◌, refl, List, ◌++◌, ℕ, ◌<◌, ◌
 use Rattle.std.proofs.Common.{sym, ap, ◌∙◌, arith, length-take-le, take_at}
 use Rattle.whole.specs.Whole.{whole}
 use Rattle.circuit.specs.Lists.{tabulate}
-use Rattle.circuit.specs.ListLaws.{length-tabulate, get_d_tabulate}
+use Rattle.circuit.proofs.ListLaws.{length-tabulate, get_or-tabulate}
 use Rattle.circuit.specs.Netlist.{Netlist, parts}
 use Rattle.circuit.specs.Times.{arrivals, requireds, slack_at, slacks}
-use Rattle.circuit.specs.TimesLaws.{length-arrivals}
-use Rattle.circuit.specs.ClockLaws.{clock}
-use Rattle.circuit.specs.SafeLaws.{slack_range}
+use Rattle.circuit.proofs.TimesLaws.{length-arrivals}
+use Rattle.circuit.proofs.ClockLaws.{clock}
+use Rattle.circuit.proofs.SafeLaws.{slack_range}
 use Rattle.timing.specs.Ready.{Ready, Gauged, Narrow}
 use Rattle.timing.specs.Bounds.{times_gauged}
 use Rattle.rounds.specs.Budgets.{given_ready}
@@ -37,7 +37,7 @@ module _ (a r : List ℤ) where
   length-by = length-tabulate (slack_at a r) (length a)
 
   pub slack_by : (x : ℕ) → x < length a → slack_at a r x ≡ get_or (slacks_by a r) x (pos 0)
-  slack_by x h = sym (get_d_tabulate (slack_at a r) (length a) x (pos 0) h)
+  slack_by x h = sym (get_or-tabulate (slack_at a r) (length a) x (pos 0) h)
 
 -- ---- the times of a netlist
 

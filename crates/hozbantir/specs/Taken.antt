@@ -3,7 +3,7 @@ use Rattle.std.specs.Prelude.{◌≡◌, List, ℕ, ◌≤◌, ℤ, length, take
 use Rattle.std.proofs.Common.{sym, ◌∙◌, arith, length-take-le}
 use Rattle.circuit.specs.Netlist.{Netlist, netlist, served_of, Based}
 use Rattle.circuit.specs.Times.{Accepted}
-use Rattle.circuit.specs.TimesLaws.{rising_order}
+use Rattle.circuit.proofs.TimesLaws.{rising_order}
 use Rattle.rounds.specs.Budgets.{Given}
 use Rattle.netlists.specs.declared.Verdict.{Verdict}
 use Rattle.netlists.specs.declared.Verdict.TheVariants.{Good}

@@ -1,4 +1,6 @@
 // The calls of the library. None asks anything of what it is given; a refusal is known before the first place of a lent buffer is written.
+#![tactic(auto)]
+
 mod analysis;
 mod answers;
 mod budgeting;

@@ -7,7 +7,7 @@ use Rattle.whole.specs.Whole.{whole}
 use Rattle.whole.specs.Range.{Within, Bounded}
 use Rattle.whole.specs.Pick.{lt, decide, if_cases}
 use Rattle.circuit.specs.Lists.{tabulate}
-use Rattle.circuit.specs.ListLaws.{get_d_tabulate, lowest_first}
+use Rattle.circuit.proofs.ListLaws.{get_or-tabulate, lowest_first}
 use Rattle.circuit.specs.Netlist.{Wired, Sorted, Judged, Rising, Based}
 use Rattle.netlists.specs.declared.Verdict.{Verdict}
 use Rattle.netlists.specs.declared.Verdict.TheVariants.{Good, Broken, Tag, Size, Field, Wiring, Ends}
@@ -76,7 +76,7 @@ module _ {b : Board} (fine : Fine b) (some : 0 < length b.kinds) where
         let n = length b.kinds in
         let ins = tabulate (ends b.tos) n in
         let outs = tabulate (ends b.froms) n in
-        rw (get_d_tabulate (ends b.tos) n x 0 h, get_d_tabulate (ends b.froms) n x 0 h) at
+        rw (get_or-tabulate (ends b.tos) n x 0 h, get_or-tabulate (ends b.froms) n x 0 h) at
         (not_faulty b.kinds ins outs x (lowest_first (faulty b.kinds ins outs) n x (omega arith)))
 
     judged : Judged (net_on b)

@@ -5,7 +5,7 @@ use Rattle.std.specs.Bool.{beq}
 use Rattle.std.proofs.Math.Bool.{or-true}
 use Rattle.std.proofs.lemmas.Bool.{eqb-false}
 use Rattle.circuit.specs.Lists.{count}
-use Rattle.circuit.specs.ListLaws.{clash, some_or_none, count_none}
+use Rattle.circuit.proofs.ListLaws.{clash, some_or_none, count_none}
 use Rattle.netlists.specs.Judge.{ends, faulty}
 
 -- ---- how many come in

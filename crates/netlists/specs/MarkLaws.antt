@@ -9,7 +9,7 @@ use Rattle.std.proofs.Math.ListN.{get_or-replicate}
 use Rattle.std.proofs.Math.Seq.{ext_get_or}
 use Rattle.whole.specs.Pick.{if_yes, if_no}
 use Rattle.circuit.specs.Lists.{tabulate, count, lowest}
-use Rattle.circuit.specs.ListLaws.{clash, length-tabulate, get_d_tabulate, lowest_le, lowest_is, lowest_first}
+use Rattle.circuit.proofs.ListLaws.{clash, length-tabulate, get_or-tabulate, lowest_le, lowest_is, lowest_first}
 use Rattle.netlists.specs.declared.Verdict.{Verdict}
 use Rattle.netlists.specs.declared.Verdict.TheVariants.{Good, Ends}
 use Rattle.netlists.specs.Judge.{ends, faulty}
@@ -35,11 +35,11 @@ set_tabulate : (f g : ℕ → ℕ) (n x v : ℕ) → x < n → g x ≡ v → ((i
 set_tabulate f g n x v h here other =
     let t = tabulate f n in
     let e = length-set t x v ∙ length-tabulate f n in
-    ext_get_or 0 (set t x v) (tabulate g n) (e ∙ sym (length-tabulate g n)) (λ i k. let b = rw e at k in by i b (ℕ_discrete x i) ∙ sym (get_d_tabulate g n i 0 b))
+    ext_get_or 0 (set t x v) (tabulate g n) (e ∙ sym (length-tabulate g n)) (λ i k. let b = rw e at k in by i b (ℕ_discrete x i) ∙ sym (get_or-tabulate g n i 0 b))
   where
     by : (i : ℕ) → i < n → Dec (x ≡ i) → get_or (set (tabulate f n) x v) i 0 ≡ g i
     by i b (yes q) = rw (← q) (get_or-set_same (tabulate f n) x v 0 (rw (length-tabulate f n) h) ∙ sym here)
-    by i b (no q) = get_or-set_other (tabulate f n) x i v 0 (λ r. q (sym r)) ∙ get_d_tabulate f n i 0 b ∙ sym (other i q)
+    by i b (no q) = get_or-set_other (tabulate f n) x i v 0 (λ r. q (sym r)) ∙ get_or-tabulate f n i 0 b ∙ sym (other i q)
 
 -- of the numbers below n, those among the first j of l are marked
 pub record Marking (l : List ℕ) (n : ℕ) (ms : List ℕ) (j : ℕ) : Type 0 where
@@ -50,7 +50,7 @@ module _ {l : List ℕ} {n : ℕ} {ms : List ℕ} where
   unfolding count
   marking_starts e = record {
     is = e ∙ ext_get_or 0 (replicate n 0) (tabulate (up_to l 0) n) (rw (length-replicate {A = ℕ} n 0, length-tabulate (up_to l 0) n) refl)
-        (λ i h. let k = rw (length-replicate {A = ℕ} n 0) at h in get_or-replicate n i 0 0 k ∙ sym (get_d_tabulate (up_to l 0) n i 0 k));
+        (λ i h. let k = rw (length-replicate {A = ℕ} n 0) at h in get_or-replicate n i 0 0 k ∙ sym (get_or-tabulate (up_to l 0) n i 0 k));
   }
 
   pub marking_ends : {j : ℕ} → Marking l n ms j → j ≡ length l → ms ≡ tabulate (mark_of l) n
@@ -105,7 +105,7 @@ fault_either : (ks fs ts : List ℕ) (n x : ℕ) → x < n → faulty ks (tabula
 unfolding fault_at
 fault_either ks fs ts n x h =
     faulty_halves ks (tabulate (ends ts) n) (tabulate (ends fs) n) x
-    ∙ rw (get_d_tabulate (ends ts) n x 0 h, get_d_tabulate (ends fs) n x 0 h, get_d_tabulate (mark_of ts) n x 0 h, get_d_tabulate (mark_of fs) n x 0 h, marked (eqb (ends ts x) 0), marked (eqb (ends fs x) 0)) refl
+    ∙ rw (get_or-tabulate (ends ts) n x 0 h, get_or-tabulate (ends fs) n x 0 h, get_or-tabulate (mark_of ts) n x 0 h, get_or-tabulate (mark_of fs) n x 0 h, marked (eqb (ends ts x) 0), marked (eqb (ends fs x) 0)) refl
 
 -- so that the lowest fault is the lesser of the lowest by each
 pub fault_lesser : (ks fs ts : List ℕ) → fault_of ks fs ts ≡ min (fault_by ks ts 0) (fault_by ks fs 2)

@@ -5,7 +5,7 @@ use Rattle.std.specs.Int.Signed.{lt_z}
 use Rattle.std.proofs.lemmas.Bool.{not-true}
 use Rattle.whole.specs.Whole.{eq_z, eq_is, whole, lt_false}
 use Rattle.whole.specs.Range.{Within}
-use Rattle.circuit.specs.ListLaws.{both, clash}
+use Rattle.circuit.proofs.ListLaws.{both, clash}
 use Rattle.netlists.specs.Judge.{key, fields_ok, wiring_ok}
 
 -- ---- WIRING

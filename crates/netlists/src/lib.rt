@@ -1,4 +1,6 @@
 // Netlist files: judged front to back, and decoded into the caller's arrays on the way.
+#![tactic(auto)]
+
 ghost use Rattle.std.specs.Prelude.{◌≡◌, not, ◌&&◌, ◌||◌, ◌≤◌, ◌<◌, eqb, pos, length, set, replicate};
 ghost use Rattle.std.specs.Bool.{beq};
 ghost use Rattle.whole.specs.Whole.{eq_z};

@@ -1,4 +1,6 @@
 // Tagged records: a tag byte, two bytes of length, and that many bytes of contents.
+#![tactic(auto)]
+
 ghost use Rattle.std.specs.Prelude.{◌≡◌, ◌+◌, ◌≤◌, length};
 ghost use Rattle.whole.specs.Bytes.{number_at};
 ghost use Rattle.records.specs.Record.{record_at, part_of};

@@ -1,5 +1,7 @@
 // Builds netlist and result files in a buffer, most of them with one fault, and writes a line for each: its name, and how it was judged.
 // What each line has to be is in the file stdout, written from document 01's rules.
+#![tactic(auto)]
+
 ghost use Rattle.std.specs.Prelude.{◌≡◌, ◌-◌, length};
 
 use netlists::Verdict;

@@ -11,7 +11,7 @@ use Rattle.whole.specs.Whole.{up}
 use Rattle.whole.specs.Pick.{if_cases}
 use Rattle.whole.specs.Bytes.{number_at, bytes_of, number_part, bytes_number}
 use Rattle.circuit.specs.Lists.{at, count}
-use Rattle.circuit.specs.ListLaws.{both, clash}
+use Rattle.circuit.proofs.ListLaws.{both, clash}
 use Rattle.circuit.specs.Netlist.{marked}
 use Rattle.records.specs.declared.Found.{Found}
 use Rattle.records.specs.declared.Found.TheVariants as F

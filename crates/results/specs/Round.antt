@@ -15,7 +15,7 @@ use Rattle.whole.specs.Whole.{up}
 use Rattle.whole.specs.Pick.{if_yes, if_no}
 use Rattle.whole.specs.Bytes.{number_at, bytes_of, number_same, number_in}
 use Rattle.circuit.specs.Lists.{at, count}
-use Rattle.circuit.specs.ListLaws.{both, count_le}
+use Rattle.circuit.proofs.ListLaws.{both, count_le}
 use Rattle.circuit.specs.Netlist.{marked}
 use Rattle.records.specs.declared.Found.TheVariants as F
 use Rattle.records.specs.Record.{record_at, part_of}

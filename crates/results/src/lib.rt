@@ -1,4 +1,6 @@
 // Result files: written into what is left of the caller's buffer, judged against a netlist, and read back.
+#![tactic(auto)]
+
 ghost use Rattle.std.specs.Prelude.{◌≡◌, List, ◌++◌, ℕ, ◌+◌, ◌*◌, ◌≤◌, ◌<◌, length, get_or, drop};
 ghost use Rattle.whole.specs.Whole.{up};
 ghost use Rattle.circuit.specs.Lists.{count};

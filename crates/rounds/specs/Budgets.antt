@@ -11,12 +11,12 @@ use Rattle.circuit.specs.Times.{Accepted, lowest_late}
 use Rattle.circuit.specs.Rounds.{Run}
 use Rattle.circuit.specs.Budget.{share_in, start_in, final_from, budget_of}
 use Rattle.circuit.specs.Budget as C
-use Rattle.circuit.specs.ServedLaws.{length-served}
-use Rattle.circuit.specs.LateLaws.{late_le, late_none_is}
-use Rattle.circuit.specs.ClockLaws.{clock}
-use Rattle.circuit.specs.SafeLaws.{Safe, based_bounded}
-use Rattle.circuit.specs.BudgetLaws.{lifted_bounded, start_is, budget_is}
-use Rattle.circuit.specs.OutcomeLaws.{ends}
+use Rattle.circuit.proofs.ServedLaws.{length-served}
+use Rattle.circuit.proofs.LateLaws.{late_le, late_none_is}
+use Rattle.circuit.proofs.ClockLaws.{clock}
+use Rattle.circuit.proofs.SafeLaws.{Safe, based_bounded}
+use Rattle.circuit.proofs.BudgetLaws.{lifted_bounded, start_is, budget_is}
+use Rattle.circuit.proofs.OutcomeLaws.{ends}
 use Rattle.timing.specs.Ready.{Ready}
 use Rattle.rounds.specs.declared.budgets.Outcome.{Outcome}
 use Rattle.rounds.specs.declared.budgets.Outcome.TheVariants.{Late, Budget}

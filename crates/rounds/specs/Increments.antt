@@ -4,14 +4,14 @@ use Rattle.std.proofs.Common.{sym, ◌∙◌}
 use Rattle.whole.specs.Whole.{up}
 use Rattle.circuit.specs.Netlist.{Netlist, Based}
 use Rattle.circuit.specs.Lists.{at, tabulate}
-use Rattle.circuit.specs.ListLaws.{length-tabulate, get_d_tabulate}
+use Rattle.circuit.proofs.ListLaws.{length-tabulate, get_or-tabulate}
 use Rattle.circuit.specs.Budget.{to_serve, start_in, final_from, increments, budget_of}
 use Rattle.circuit.specs.Budget as C
-use Rattle.circuit.specs.ClockLaws.{clock}
-use Rattle.circuit.specs.SafeLaws.{Safe}
-use Rattle.circuit.specs.FinalLaws.{final_done}
-use Rattle.circuit.specs.BudgetLaws.{start_is}
-use Rattle.circuit.specs.OutcomeLaws.{OfMode, budget_says, rounds_most}
+use Rattle.circuit.proofs.ClockLaws.{clock}
+use Rattle.circuit.proofs.SafeLaws.{Safe}
+use Rattle.circuit.proofs.FinalLaws.{final_done}
+use Rattle.circuit.proofs.BudgetLaws.{start_is}
+use Rattle.circuit.proofs.OutcomeLaws.{OfMode, budget_says, rounds_most}
 use Rattle.rounds.specs.declared.budgets.Outcome.{Outcome}
 use Rattle.rounds.specs.declared.budgets.Outcome.TheVariants.{Budget}
 use Rattle.rounds.specs.Budgets.{answer_budget, Budgets, Given}
@@ -26,7 +26,7 @@ length-rises f b = length-tabulate _ (length b)
 
 pub rise_is : (f b : List ℤ) (x : ℕ) → x < length b → get_or (rises_of f b) x 0 ≡ up (at f x -ℤ at b x)
 unfolding rises_of
-rise_is f b x h = get_d_tabulate _ (length b) x 0 h
+rise_is f b x h = get_or-tabulate _ (length b) x 0 h
 
 pub rises_are : {n : Netlist} {b : List ℤ} (f : List ℤ) → Based n b → rises_of f b ≡ increments n b f
 unfolding rises_of increments

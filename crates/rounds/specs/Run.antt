@@ -2,12 +2,12 @@
 use Rattle.std.specs.Prelude.{◌≡◌, refl, Bool, true, false, List, ℕ, suc, ◌+◌, ◌<◌, ◌≤◌, ℤ, length}
 use Rattle.std.proofs.Common.{sym, ◌∙◌, arith}
 use Rattle.circuit.specs.Netlist.{Netlist, parts, served_of}
-use Rattle.circuit.specs.ListLaws.{count_le}
+use Rattle.circuit.proofs.ListLaws.{count_le}
 use Rattle.circuit.specs.Times.{Accepted, arrivals, requireds}
 use Rattle.circuit.specs.Rounds.{Run, halt, turn, positive}
-use Rattle.circuit.specs.ClockLaws.{clock}
-use Rattle.circuit.specs.SafeLaws.{Safe}
-use Rattle.circuit.specs.RunLaws.{positives, round_keeps, round_falls}
+use Rattle.circuit.proofs.ClockLaws.{clock}
+use Rattle.circuit.proofs.SafeLaws.{Safe}
+use Rattle.circuit.proofs.RunLaws.{positives, round_keeps, round_falls}
 use Rattle.rounds.specs.Round.{Rounded}
 
 -- c rounds led from the delays d₀ to d, so that a run from d is one from d₀ with c rounds more; and each of them left fewer served components with

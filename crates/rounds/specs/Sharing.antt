@@ -8,7 +8,7 @@ use Rattle.circuit.specs.Netlist.{Netlist, parts}
 use Rattle.circuit.specs.Times.{in_time}
 use Rattle.circuit.specs.Share.{lifted, descend, share_of}
 use Rattle.circuit.specs.Budget.{share_in}
-use Rattle.circuit.specs.DescentLaws.{length-lifted}
+use Rattle.circuit.proofs.DescentLaws.{length-lifted}
 use Rattle.timing.specs.Ready.{Ready}
 
 -- the netlist n with the marks sv and the base delays b, of which less than 2^28 more leaves delays that can be timed; and how long the work

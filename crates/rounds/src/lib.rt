@@ -1,4 +1,6 @@
 // The share and the rounds (document 01, "Share and rounds"), over lent slices and arrays.
+#![tactic(auto)]
+
 mod budgets;
 mod descent;
 mod increments;

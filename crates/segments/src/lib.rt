@@ -1,5 +1,7 @@
 // The parts of a round (document 01, "Share and rounds"), each by its definition of crate circuit: who is served, the delays with a share,
 // the choice, the steps of the walks, the segment, and the delivery.
+#![tactic(auto)]
+
 mod choice;
 mod delivery;
 mod index;

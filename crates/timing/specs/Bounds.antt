@@ -5,10 +5,10 @@ use Rattle.std.proofs.Common.{arith, ltb-true, ltb-false, length-take}
 use Rattle.std.proofs.Math.ListN.{length-reverse, get_or-eq_default}
 use Rattle.whole.specs.Range.{Within, within_more, within_sum, within_diff, within_max, within_min, Bounded, bounded_set, bounded_more}
 use Rattle.circuit.specs.Lists.{at, tabulate}
-use Rattle.circuit.specs.ListLaws.{length-tabulate, get_d_tabulate}
+use Rattle.circuit.proofs.ListLaws.{length-tabulate, get_or-tabulate}
 use Rattle.circuit.specs.Netlist.{Netlist, parts}
 use Rattle.circuit.specs.Times.{Way, step, sweep, order, anchor, forward, backward, arrivals, requireds}
-use Rattle.circuit.specs.TimesLaws.{length-order, length-arrivals, length-requireds}
+use Rattle.circuit.proofs.TimesLaws.{length-order, length-arrivals, length-requireds}
 use Rattle.timing.specs.Ready.{Ready, Gauged}
 use Rattle.timing.specs.Sweep.{Sweeping}
 
@@ -47,7 +47,7 @@ tabulate_bounded : (f : ℕ → ℤ) (b : ℕ) → ((x : ℕ) → Within b (f x)
 tabulate_bounded f b h n = record { at = λ k. by k (ltb k n) refl }
   where
     by : (k : ℕ) (t : Bool) → ltb k n ≡ t → Within b (get_or (tabulate f n) k (pos 0))
-    by k true e = rw (get_d_tabulate f n k (pos 0) (ltb-true k n e)) (h k)
+    by k true e = rw (get_or-tabulate f n k (pos 0) (ltb-true k n e)) (h k)
     by k false e = rw (get_or-eq_default (tabulate f n) (pos 0) {n = k} (rw (length-tabulate f n) (ltb-false k n e))) (omega arith)
 
 -- times, and z where there is none

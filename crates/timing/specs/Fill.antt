@@ -3,7 +3,7 @@ use Rattle.std.specs.Prelude.{◌≡◌, List, ℕ, ◌+◌, ◌<◌, ℤ, pos, 
 use Rattle.std.proofs.Common.{sym, ◌∙◌, arith}
 use Rattle.whole.specs.Fill as W
 use Rattle.circuit.specs.Lists.{tabulate}
-use Rattle.circuit.specs.ListLaws.{length-tabulate, get_d_tabulate}
+use Rattle.circuit.proofs.ListLaws.{length-tabulate, get_or-tabulate}
 
 abbrev pub Filling : (ℕ → ℤ) → List ℤ → List ℤ → ℕ → Type 0
 Filling f out₀ = W.Filling (tabulate f (length out₀)) out₀
@@ -13,7 +13,7 @@ module _ (f : ℕ → ℤ) where
   filling_starts {out} = W.filling_starts (length-tabulate f (length out))
 
   pub filling_next : {out₀ out : List ℤ} {i : ℕ} {v : ℤ} → Filling f out₀ out i → i < length out₀ → v ≡ f i → Filling f out₀ (set out i v) (i + 1)
-  filling_next {out₀} {i = i} l h q = W.filling_next (pos 0) l (rw length-tabulate h) (q ∙ sym (get_d_tabulate f (length out₀) i (pos 0) h))
+  filling_next {out₀} {i = i} l h q = W.filling_next (pos 0) l (rw length-tabulate h) (q ∙ sym (get_or-tabulate f (length out₀) i (pos 0) h))
 
   pub filling_ends : {out₀ out : List ℤ} {i : ℕ} → Filling f out₀ out i → i ≡ length out₀ → out ≡ tabulate f (length out₀)
   filling_ends l e = W.filling_ends l (rw length-tabulate (omega arith))

@@ -6,9 +6,9 @@ use mathlib.Core.List.{List, [], ◌∷◌, ◌++◌, reverse, reverse-cons}
 use Rattle.std.proofs.lemmas.List.{length-reverse, get_or_at}
 use Rattle.std.proofs.Math.ListN.{get_or-append}
 use Rattle.circuit.specs.Lists.{up_from}
-use Rattle.circuit.specs.ListLaws.{length_from, from_at}
+use Rattle.circuit.proofs.ListLaws.{length_from, from_at}
 use Rattle.circuit.specs.Times.{Way, step, sweep}
-use Rattle.circuit.specs.SweepLaws.{length-sweep}
+use Rattle.circuit.proofs.SweepLaws.{length-sweep}
 
 -- one connection more at the end is one step more
 sweep_end : (v : Way) (w : List ℕ) (a : List ℤ) (i : ℕ) → sweep v (w ++ (i ∷ [])) a ≡ step v i (sweep v w a)

@@ -1,6 +1,8 @@
 // Arrivals, required times, slacks and in time, over slices that the caller lends. A sweep goes through the connections once, as they stand or
 // the last first; nothing here asks that a connection goes to a higher number. Delays and times of a file stand in four bytes each, and sums
 // of them are taken in eight: none overflows, by the bounds of `Ready` alone.
+#![tactic(auto)]
+
 ghost use Rattle.std.specs.Prelude.{◌≡◌, cond, ◌&&◌, reverse, ◌<◌, ◌^◌, eqb, ◌+ℤ◌, ◌-ℤ◌, length, set};
 ghost use Rattle.std.specs.Int.Signed.{lt_z};
 ghost use Rattle.whole.specs.Whole.{max_z, min_z};

@@ -3,7 +3,7 @@ use Rattle.std.specs.Prelude.{◌≡◌, refl, Bool, true, false, cond, List, []
 use Rattle.std.proofs.Common.{sym, arith, ltb-true}
 use Rattle.whole.specs.Whole.{up, down}
 use Rattle.whole.specs.Range.{Within, Bounded}
-use Rattle.circuit.specs.ListLaws.{clash}
+use Rattle.circuit.proofs.ListLaws.{clash}
 use Rattle.segments.specs.Lent.{Loaded}
 
 -- every number is below k

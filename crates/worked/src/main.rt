@@ -1,5 +1,7 @@
 // Runs the circuits that document 01 works by hand through the calls: A, B and C as netlist files, slacks, both modes, and each result read back;
 // and circuits D and E, whose numbers are out of order, through the backward walk.
+#![tactic(auto)]
+
 ghost use Rattle.std.specs.Prelude.{◌≡◌, ◌+◌, ◌*◌, ◌<◌, ◌≤◌, length};
 ghost use Rattle.segments.specs.Lent.{Loaded};
 

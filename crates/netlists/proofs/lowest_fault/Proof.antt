@@ -3,7 +3,7 @@ use borrow.Author.Rules.{rules}
 use lib.ListN.{length}
 use mathlib.Core.Path.{◌∙◌, sym}
 use native.Mathlib.Omega.{arith}
-use Rattle.circuit.specs.SeekLaws.{Seeking, seeking_starts, seeking_next, seeking_found, seeking_none}
+use Rattle.circuit.proofs.SeekLaws.{Seeking, seeking_starts, seeking_next, seeking_found, seeking_none}
 use Rattle.netlists.specs.Ends.{fault_at}
 use Rattle.netlists.proofs.lowest_fault.Statement.{statement}
 use Rattle.netlists.proofs.lowest_fault.Tie as tie

@@ -1,4 +1,4 @@
-use Rattle.circuit.specs.ListLaws.{count_le}
+use Rattle.circuit.proofs.ListLaws.{count_le}
 use Rattle.circuit.specs.Netlist.{marked}
 use lib.ListN.{length}
 use native.Mathlib.Omega.{arith}

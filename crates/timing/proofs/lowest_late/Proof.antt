@@ -1,6 +1,6 @@
 use Prim.Native.Nat.{◌-◌}
 use Rattle.circuit.specs.Times.{late}
-use Rattle.circuit.specs.SeekLaws.{Seeking, seeking_found, seeking_next, seeking_none, seeking_starts}
+use Rattle.circuit.proofs.SeekLaws.{Seeking, seeking_found, seeking_next, seeking_none, seeking_starts}
 use borrow.Author.Rules.{rules}
 use lib.ListN.{length}
 use mathlib.Core.Path.{◌∙◌, sym}

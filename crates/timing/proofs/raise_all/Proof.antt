@@ -1,5 +1,5 @@
 use Prim.Native.Nat.{◌-◌, ◌≤◌}
-use Rattle.circuit.specs.ListLaws.{length_from}
+use Rattle.circuit.proofs.ListLaws.{length_from}
 use Rattle.circuit.specs.Lists.{up_from}
 use Rattle.circuit.specs.Times.{forward}
 use Rattle.timing.specs.Bounds.{forward_mild, sweeping_bounded}

@@ -1,4 +1,4 @@
-use Rattle.circuit.specs.ListLaws.{length-first}
+use Rattle.circuit.proofs.ListLaws.{length-first}
 use Rattle.hozbantir.specs.Taken.{filled_few}
 use mathlib.Core.Path.{sym, ap, ◌∙◌}
 use native.Mathlib.Omega.{arith}

@@ -1,4 +1,4 @@
-use Rattle.circuit.specs.BudgetLaws.{even_share, plain_share}
+use Rattle.circuit.proofs.BudgetLaws.{even_share, plain_share}
 use Rattle.rounds.specs.Budgets.{given_sharing}
 use borrow.Author.Rules.{rules}
 use mathlib.Core.Path.{◌∙◌, sym}

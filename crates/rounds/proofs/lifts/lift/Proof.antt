@@ -1,5 +1,5 @@
 use Prim.Native.Nat.{◌-◌, ◌≤◌}
-use Rattle.circuit.specs.DescentLaws.{length-lifted, lifted_at}
+use Rattle.circuit.proofs.DescentLaws.{length-lifted, lifted_at}
 use Rattle.circuit.specs.Share.{lifted}
 use Rattle.whole.specs.Fill.{Filling, filling_ends, filling_next, filling_starts}
 use Rattle.whole.specs.BitsLaws.{via32}

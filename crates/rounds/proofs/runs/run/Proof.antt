@@ -1,5 +1,5 @@
 use Rattle.circuit.specs.Netlist.{netlist}
-use Rattle.circuit.specs.RunLaws.{positives}
+use Rattle.circuit.proofs.RunLaws.{positives}
 use Rattle.rounds.specs.Round.{steady}
 use Rattle.rounds.specs.Run.{Running, running_starts, running_falls, running_few, running_next, running_stops}
 use borrow.Author.Rules.{rules}

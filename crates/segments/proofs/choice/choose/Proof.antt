@@ -1,5 +1,5 @@
 use Prim.Native.Nat.{◌-◌, ◌≤◌}
-use Rattle.circuit.specs.ChoiceLaws.{choice_le}
+use Rattle.circuit.proofs.ChoiceLaws.{choice_le}
 use Rattle.circuit.specs.Lists.{at}
 use Rattle.circuit.specs.Rounds.{choice_of}
 use Rattle.segments.specs.Choice.{choice_next, choice_starts}

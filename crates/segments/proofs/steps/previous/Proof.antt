@@ -1,7 +1,7 @@
 use Prim.Native.Nat.{◌-◌}
 use Rattle.circuit.specs.Netlist.{from, to}
 use Rattle.circuit.specs.Rounds.{before, feeds}
-use Rattle.circuit.specs.SeekLaws.{Seeking, seeking_else, seeking_first, seeking_next, seeking_starts}
+use Rattle.circuit.proofs.SeekLaws.{Seeking, seeking_else, seeking_first, seeking_next, seeking_starts}
 use borrow.Author.Rules.{rules}
 use lib.ListN.{length}
 use mathlib.Core.Path.{◌∙◌, sym}
