@@ -33,10 +33,14 @@ portions_to s (x ∷ xs) (Memᴰ.tail m) = Memᴰ.tail (portions_to (s - s / suc
 
 -- ---- the function
 
-pub length-deliver : (s : ℕ) (xs : List ℕ) (d : List ℤ) → length (deliver s xs d) ≡ length d
+-- whatever the portions are
+length_by_list : (xs : List ℕ) (s : ℕ) (d : List ℤ) → length (deliver s xs d) ≡ length d
 unfolding deliver
-length-deliver s [] d = refl
-length-deliver s (x ∷ xs) d = length-deliver (s - s / suc (length xs)) xs _ ∙ simp length-set
+length_by_list [] s d = refl
+length_by_list (x ∷ xs) s d = length_by_list xs _ _ ∙ simp length-set
+
+pub length-deliver : (s : ℕ) (xs : List ℕ) (d : List ℤ) → length (deliver s xs d) ≡ length d
+length-deliver s xs d = length_by_list xs s d
 
 set_gift : (d : List ℤ) (x g : ℕ) → x < length d → (y : ℕ) → at (set d x (at d x +ℤ pos g)) y ≡ at d y +ℤ pos (gift x g y)
 unfolding gift
