@@ -58,8 +58,8 @@ pub fn contents(s: &[u8], start: usize, len: usize) -> &[u8]
     &s[start..start + len]
 }
 
-// The record reader: it remembers the file it was given and its place in it. The borrow checker covers no function over a struct that holds a
-// reference, so there are few, each takes the reader apart and leaves the work to a function above, and each is proved by hand.
+// The record reader: it remembers the file it was given and its place in it. There are few functions over it, and each takes the reader apart
+// and leaves the work to a function above.
 #[derive(Drop)]
 pub struct Reader<'a> {
     pub src: &'a [u8],
@@ -87,7 +87,7 @@ pub fn contents_of<'a>(r: Reader<'a>, start: usize, len: usize) -> &'a [u8]
     contents(r.src, start, len)
 }
 
-// A reader made and asked once, on plain parameters: who calls this needs no proof by hand.
+// A reader made and asked once, on plain parameters.
 pub fn record_from(s: &[u8], at: usize) -> Found
     ensures { result ≡ record_at s.now at }
 {
