@@ -2,7 +2,7 @@
 -- different things have the same bytes.
 use Rattle.std.specs.Prelude.{◌≡◌, Bool, not, ◌&&◌, ◌||◌, ℕ, suc, ◌+◌, ◌%◌, ◌≤◌, ◌<◌, eqb, leb, ℤ, drop}
 use Rattle.std.proofs.Math.Path.{refl, sym, ap}
-use Rattle.std.proofs.Common.{◌∙◌, add_assoc, drop_at, drop-drop, get_or-drop}
+use Rattle.std.proofs.Common.{◌∙◌, subst, add_assoc, drop_at, drop-drop, get_or-drop}
 use Rattle.std.proofs.Math.Bool.{true, false, cond}
 use mathlib.Core.List.{List, [], ◌∷◌, ◌++◌, append_assoc, append-nil}
 use native.Mathlib.Omega.{arith}
@@ -101,7 +101,11 @@ module _ (sv : List ℕ) (bases : List ℤ) (h : Bases bases) where
       let b = bound_for sv bases x i in
       let t = tail_of sv bases (suc x) is in
       let q = reads is (suc x) (pre ++ b) post (acc ++ (i ∷ [])) (omega arith) (raised_tail r) in
-      rw (append_assoc b t post, step_back x i pre (t ++ post) acc (omega arith) (raised_head r)) (rw (append_assoc pre b (t ++ post), append_assoc pre b t, append_snoc) at q)
+      let e : b ++ t ++ post ≡ b ++ (t ++ post) = append_assoc b t post in
+      subst
+      (λ (l : List ℕ). read_from (pre ++ l) sv bases (suc (length is)) x (held (length pre) acc) ≡ Go (held (length (pre ++ (b ++ t))) (acc ++ (i ∷ is))))
+      (sym e)
+      (rw (step_back x i pre (t ++ post) acc (omega arith) (raised_head r)) (rw (append_assoc pre b (t ++ post), append_assoc pre b t, append_snoc) at q))
 
 -- ---- the summary
 

@@ -1,6 +1,6 @@
 -- The bounds as the judge meets them, from the first on, each with the increment that it says; and what an increment may be.
 use Rattle.std.specs.Prelude.{◌≡◌, refl, false, cond, ℤ, get_or}
-use Rattle.std.proofs.Common.{◌∙◌, add-zero, length-append}
+use Rattle.std.proofs.Common.{◌∙◌, subst, add-zero, length-append}
 use mathlib.Core.List.{List, [], ◌∷◌, ◌++◌, append_assoc, append-nil}
 use Prim.Native.Nat.{ℕ, zero, suc, ◌+◌, ◌≤◌}
 use native.Mathlib.Omega.{arith}
@@ -61,7 +61,9 @@ module _ (sv : List ℕ) (bases : List ℤ) where
   bounds_tail (i ∷ is) pre n e =
       let m : n + suc (length is) ≡ suc n + length is = omega arith in
       let l : length (pre ++ (i ∷ [])) ≡ suc n = rw (length-append pre (i ∷ [])) (omega arith) in
-      let r = rw append_snoc at (bounds_tail is (pre ++ (i ∷ [])) (suc n) l) in
+      let r =
+      subst (λ (p : List ℕ). bounds_of bound_tag sv bases p (suc n + length is) ≡ bounds_of bound_tag sv bases p (suc n) ++ tail_of sv bases (suc n) is)
+      (append_snoc pre i is) (bounds_tail is (pre ++ (i ∷ [])) (suc n) l) in
       rw m (r ∙ rw (get_or_at pre i is 0 n e, append_assoc))
 
   pub bounds_are : (incs : List ℕ) → bounds_of bound_tag sv bases incs (length incs) ≡ tail_of sv bases 0 incs
