@@ -111,8 +111,7 @@ fn read_back_into(
     bounds_into(n, bytes, served, bases, incs)
 }
 
-#[unsafe(no_mangle)]
-pub extern "C" fn hozbantir_analyse(netlist: &[u8], slacks: &mut [u8]) -> u64
+pub fn hozbantir_analyse(netlist: &[u8], slacks: &mut [u8]) -> u64
     ensures { SendsAnalysis netlist.now slacks.old result slacks.new }
 {
     let mut arr = [0i64; 1024];
@@ -120,15 +119,13 @@ pub extern "C" fn hozbantir_analyse(netlist: &[u8], slacks: &mut [u8]) -> u64
     code(analyse_into(netlist, slacks, &mut arr, &mut req))
 }
 
-#[unsafe(no_mangle)]
-pub extern "C" fn hozbantir_budget(mode: u32, netlist: &[u8], res: &mut [u8]) -> u64
+pub fn hozbantir_budget(mode: u32, netlist: &[u8], res: &mut [u8]) -> u64
     ensures { SendsBudget mode netlist.now res.old result res.new }
 {
     code(budget(mode, netlist, res))
 }
 
-#[unsafe(no_mangle)]
-pub extern "C" fn hozbantir_read_back(netlist: &[u8], res: &[u8], bounds: &mut [u8]) -> u64
+pub fn hozbantir_read_back(netlist: &[u8], res: &[u8], bounds: &mut [u8]) -> u64
     ensures { SendsBounds netlist.now res.now bounds.old result bounds.new }
 {
     let mut bases = [0i32; 1024];
