@@ -12,7 +12,7 @@ use Rattle.netlists.specs.declared.Verdict.TheVariants.{Good, Broken, Tag, Size,
 use Rattle.netlists.specs.declared.State.{State}
 use Rattle.netlists.specs.declared.Stepped.{Stepped}
 use Rattle.netlists.specs.declared.Stepped.TheVariants as S
-use Rattle.netlists.specs.Judge.{Board, empty, Go, Stop, on_record, finish, step_of, read_from, records_of, board_of}
+use Rattle.netlists.specs.Judge.{Board, empty, on_record, finish, step_of, read_from, records_of, board_of}
 use Rattle.netlists.specs.Held.{Arrays, arrays, held, LongParts, LongWires, Room, ended_at, OnComponent, OnConnection, OnRecord, OneStep, Decoded, Read}
 use Rattle.netlists.specs.HeldLaws.{held_comps, held_conns}
 use Rattle.netlists.specs.BoardLaws.{Final}

@@ -48,7 +48,7 @@ struct Component {
     time: i32,
 }
 
-#[derive(Drop)]
+#[derive(Clone, Copy)]
 struct Connection {
     from: u16,
     to: u16,
