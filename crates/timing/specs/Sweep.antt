@@ -45,6 +45,7 @@ order_at n j h = from_at 0 n j h ∙ omega arith
 
 -- what stands j places from the front stands j places from the end of the list the other way round
 reverse_at : (w : List ℕ) (j : ℕ) → j < length w → get_or (reverse w) (length w - suc j) 0 ≡ get_or w j 0
+reverse_at [] j h = elim h [ ]
 reverse_at (x ∷ w) zero h = rw reverse-cons (get_or_at (reverse w) x [] 0 (suc (length w) - 1) (length-reverse w ∙ omega arith))
 reverse_at (x ∷ w) (suc j) h =
     let e : suc (length w) - suc (suc j) ≡ length w - suc j = omega arith in
