@@ -3,7 +3,6 @@ use Rattle.std.specs.Prelude.{◌≡◌, refl, Bool, true, false, cond, List, �
 use Rattle.std.proofs.Common.{◌∙◌, arith}
 use Rattle.std.proofs.Math.Nat.{two-pow-succ}
 use Rattle.whole.specs.Range.{Bounded}
-use Rattle.circuit.specs.Lists.{at}
 use Rattle.circuit.specs.Netlist.{Netlist, parts}
 use Rattle.circuit.specs.Times.{in_time}
 use Rattle.circuit.specs.Share.{lifted, descend, share_of}
