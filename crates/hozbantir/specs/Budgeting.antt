@@ -17,10 +17,8 @@ use Rattle.results.specs.Writing.{length-encode}
 use Rattle.hozbantir.specs.declared.answers.Answer.{Answer}
 use Rattle.hozbantir.specs.declared.answers.Answer.TheVariants.{Done, Late, Room}
 use Rattle.hozbantir.specs.Answers.{in_room, Leaves}
-use Rattle.hozbantir.proofs.AnswerLaws.{refusal_leaves, room_short, room_enough}
 use Rattle.hozbantir.specs.Calls.{budget_on}
 use Rattle.hozbantir.specs.Taken.{Taken}
-use Rattle.hozbantir.proofs.TakenLaws.{taken_given}
 
 -- base delays b and final delays f of the components that are marked, an array for their increments, and a summary that fits its fields
 pub record Writes (m k : ℕ) (sv : List ℕ) (b f : List ℤ) (incs : List ℕ) : Type 0 where

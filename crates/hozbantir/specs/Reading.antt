@@ -18,12 +18,8 @@ use Rattle.results.specs.Accepted as Q
 use Rattle.hozbantir.specs.declared.answers.Answer.{Answer}
 use Rattle.hozbantir.specs.declared.answers.Answer.TheVariants.{Done, Result}
 use Rattle.hozbantir.specs.Answers.{number_of, place_of, refusal, in_room, on_verdict, on_told}
-use Rattle.hozbantir.proofs.AnswerLaws.{Refused, unless_refused, unless_done, verdict_good}
 use Rattle.hozbantir.specs.Calls.{taken_of, result_on, both_of, said_of, bounds_on, read_back_of}
-use Rattle.hozbantir.proofs.CallLaws.{both_refused, both_taken}
 use Rattle.hozbantir.specs.Taken.{Taken}
-use Rattle.hozbantir.proofs.TakenLaws.{accepted_taken}
-use Rattle.hozbantir.proofs.BudgetingLaws.{taken_bases, taken_columns}
 
 -- ---- the result
 

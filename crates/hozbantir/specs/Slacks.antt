@@ -19,11 +19,8 @@ use Rattle.netlists.specs.Held.{Arrays, BoardIn, Judges}
 use Rattle.hozbantir.specs.declared.answers.Answer.{Answer}
 use Rattle.hozbantir.specs.declared.answers.Answer.TheVariants.{Done}
 use Rattle.hozbantir.specs.Answers.{number_of, place_of, refusal, in_room, on_verdict}
-use Rattle.hozbantir.proofs.AnswerLaws.{Refused, unless_refused, unless_done}
 use Rattle.hozbantir.specs.Calls.{taken_of, analysis_on, analysis_of}
-use Rattle.hozbantir.proofs.CallLaws.{taken_refused, taken_done}
 use Rattle.hozbantir.specs.Taken.{Taken, net_in}
-use Rattle.hozbantir.proofs.TakenLaws.{taken_given, said_taken, taken_count}
 
 -- the slacks of arrivals a and required times r
 abbrev pub slacks_by : (a r : List ℤ) → List ℤ

@@ -11,7 +11,6 @@ use Rattle.netlists.specs.Held.{Arrays, LongParts, LongWires, BoardIn, Judges}
 use Rattle.netlists.specs.Judge.{net_on, board_of, judge_of}
 use Rattle.netlists.specs.Accepted.{accepted}
 use Rattle.hozbantir.specs.declared.answers.Answer.TheVariants.{Done}
-use Rattle.hozbantir.proofs.AnswerLaws.{verdict_good}
 use Rattle.hozbantir.specs.Calls.{taken_of}
 
 -- an accepted netlist, and its base delays

@@ -6,7 +6,7 @@ ghost use Rattle.hozbantir.specs.Answers.{number_of, place_of, on_verdict};
 use netlists::Verdict;
 
 // What a call answers: success, with how many numbers or bytes it wrote, or one of document 01's refusals, with its place.
-#[derive(Drop)]
+#[derive(Clone, Copy)]
 pub enum Answer {
     Done(usize),
     Mode,
