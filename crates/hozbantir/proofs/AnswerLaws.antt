@@ -5,7 +5,7 @@ use Rattle.whole.specs.Pick.{Test, Yes, No, lt, eq, if?, if_yes, if_no, if_cases
 use Rattle.netlists.specs.declared.Verdict.{Verdict}
 use Rattle.netlists.specs.declared.Verdict.TheVariants as J
 use Rattle.hozbantir.specs.declared.answers.Answer.{Answer}
-use Rattle.hozbantir.specs.declared.answers.Answer.TheVariants.{Done, Broken, Tag, Size, Field, Wiring, Ends, Room}
+use Rattle.hozbantir.specs.declared.answers.Answer.TheVariants.{Done, Room}
 use Rattle.hozbantir.specs.Answers.{number_of, place_of, Left, left, refusal, in_room, Leaves, unless, on_verdict}
 use Rattle.hozbantir.proofs.AnswerOne.{answer_one}
 

@@ -1,11 +1,6 @@
 -- Number and place tell the answer, so that answer and buffer are determined.
-use Rattle.std.specs.Prelude.{◌≡◌, refl, List, [], ◌∷◌, ◌++◌, ℕ, length, drop, get_or}
+use Rattle.std.specs.Prelude.{◌≡◌, refl, List, [], ◌∷◌, ℕ, get_or}
 use Rattle.std.proofs.Common.{sym, ◌∙◌}
-use Rattle.whole.specs.Pick.{lt, eq, if?}
-use Rattle.netlists.specs.declared.Verdict.{Verdict}
-use Rattle.netlists.specs.declared.Verdict.TheVariants as J
-use Rattle.results.specs.declared.Told.{Told}
-use Rattle.results.specs.declared.Told.TheVariants as T
 use Rattle.hozbantir.specs.declared.answers.Answer.{Answer}
 use Rattle.hozbantir.specs.declared.answers.Answer.TheVariants.{Done, Mode, Broken, Tag, Size, Field, Wiring, Ends, Late, Room, Result}
 use Rattle.hozbantir.specs.Answers.{number_of, place_of, Left, Leaves}

@@ -10,21 +10,20 @@ use Rattle.netlists.specs.Judge.{net_on, board_of, judge_of}
 use Rattle.netlists.specs.Held.{Arrays, BoardIn, Judges}
 use Rattle.results.specs.declared.Told.{Told}
 use Rattle.results.specs.declared.Told.TheVariants as T
-use Rattle.results.specs.Result.{told_of, increments_of, bounds_read}
+use Rattle.results.specs.Result.{told_of, bounds_read}
 use Rattle.results.specs.Judging.{Heard}
-use Rattle.results.specs.Columns.{Columns, Bases, Increments}
 use Rattle.results.specs.Bounds.{length-read}
 use Rattle.results.specs.Accepted as Q
 use Rattle.hozbantir.specs.declared.answers.Answer.{Answer}
 use Rattle.hozbantir.specs.declared.answers.Answer.TheVariants.{Done, Result}
 use Rattle.hozbantir.specs.Answers.{number_of, place_of, refusal, in_room, on_verdict, on_told}
 use Rattle.hozbantir.proofs.AnswerLaws.{Refused, unless_refused, unless_done, verdict_good}
-use Rattle.hozbantir.specs.Calls.{taken_of, result_on, both_of, said_of, bounds_on, read_back_of}
+use Rattle.hozbantir.specs.Calls.{taken_of, result_on, both_of, bounds_on, read_back_of}
 use Rattle.hozbantir.proofs.CallLaws.{both_refused, both_taken}
 use Rattle.hozbantir.specs.Taken.{Taken}
 use Rattle.hozbantir.proofs.TakenLaws.{accepted_taken}
 use Rattle.hozbantir.proofs.BudgetingLaws.{taken_bases, taken_columns}
-use Rattle.hozbantir.specs.Reading.{Listened, Fronts, ToldIn, Both, Listed}
+use Rattle.hozbantir.specs.Reading.{Listened, ToldIn, Both, Listed}
 
 -- ---- the result
 

@@ -1,11 +1,9 @@
 -- How the exports meet what they send: from what a call leaves to what C gets.
-use Rattle.std.specs.Prelude.{◌≡◌, ℕ, suc, ◌+◌, ◌*◌, ◌<◌, ◌≤◌, length, get_or, take, drop}
+use Rattle.std.specs.Prelude.{◌≡◌, ℕ, ◌<◌, ◌≤◌}
 use Rattle.std.proofs.Math.Path.{refl}
-use Rattle.std.proofs.Common.{sym, ◌∙◌, arith, add-one, length-append, take-suc, take_all}
-use mathlib.Core.List.{List, [], ◌∷◌, ◌++◌, append_assoc, append-nil}
+use Rattle.std.proofs.Common.{sym, ◌∙◌}
+use mathlib.Core.List.{List}
 use Rattle.whole.specs.Pick.{lt, if_yes, if_no}
-use Rattle.whole.specs.Bytes.{bytes_of, put_at, length-bytes}
-use Rattle.results.specs.Writing.{Begun, begun_none, begun_put}
 use Rattle.hozbantir.specs.declared.answers.Answer.{Answer}
 use Rattle.hozbantir.specs.declared.answers.Answer.TheVariants.{Done, Room}
 use Rattle.hozbantir.specs.Answers.{place_of, Left, left, refusal, in_room, Leaves}

@@ -1,8 +1,7 @@
 -- How the code meets analyse: the times that it holds of a netlist that was judged, their slacks, and what it leaves.
-use Rattle.std.specs.Prelude.{◌≡◌, refl, List, ◌++◌, ℕ, ◌<◌, ◌≤◌, ℤ, pos, length, get_or, take, drop}
+use Rattle.std.specs.Prelude.{◌≡◌, refl, List, ◌++◌, ℕ, ◌<◌, ℤ, pos, length, get_or, take, drop}
 use Rattle.std.proofs.Common.{sym, ap, ◌∙◌, arith, length-take-le, take_at}
 use Rattle.whole.specs.Whole.{whole}
-use Rattle.circuit.specs.Lists.{tabulate}
 use Rattle.circuit.proofs.ListLaws.{length-tabulate, get_or-tabulate}
 use Rattle.circuit.specs.Netlist.{Netlist, parts}
 use Rattle.circuit.specs.Times.{arrivals, requireds, slack_at, slacks}
@@ -14,7 +13,7 @@ use Rattle.timing.specs.Bounds.{times_gauged}
 use Rattle.rounds.specs.Budgets.{given_ready}
 use Rattle.netlists.specs.declared.Verdict.{Verdict}
 use Rattle.netlists.specs.declared.Verdict.TheVariants as J
-use Rattle.netlists.specs.Judge.{net_on, board_of}
+use Rattle.netlists.specs.Judge.{board_of}
 use Rattle.netlists.specs.Held.{Arrays, BoardIn, Judges}
 use Rattle.hozbantir.specs.declared.answers.Answer.{Answer}
 use Rattle.hozbantir.specs.declared.answers.Answer.TheVariants.{Done}

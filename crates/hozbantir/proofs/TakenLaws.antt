@@ -1,8 +1,7 @@
 -- What is known of a netlist that the reader took.
-use Rattle.std.specs.Prelude.{◌≡◌, List, ℕ, ◌≤◌, ℤ, length, take}
+use Rattle.std.specs.Prelude.{◌≡◌, List, ℕ, ◌≤◌, ℤ, length}
 use Rattle.std.proofs.Common.{sym, ◌∙◌, arith, length-take-le}
-use Rattle.circuit.specs.Netlist.{Netlist, netlist, served_of, Based}
-use Rattle.circuit.specs.Times.{Accepted}
+use Rattle.circuit.specs.Netlist.{Netlist, served_of}
 use Rattle.circuit.proofs.TimesLaws.{rising_order}
 use Rattle.rounds.specs.Budgets.{Given}
 use Rattle.netlists.specs.declared.Verdict.{Verdict}
@@ -13,7 +12,7 @@ use Rattle.netlists.specs.Accepted.{accepted}
 use Rattle.hozbantir.specs.declared.answers.Answer.TheVariants.{Done}
 use Rattle.hozbantir.proofs.AnswerLaws.{verdict_good}
 use Rattle.hozbantir.specs.Calls.{taken_of}
-use Rattle.hozbantir.specs.Taken.{Taken, net_in, Filled}
+use Rattle.hozbantir.specs.Taken.{Taken, Filled}
 
 pub taken_given : {n : Netlist} {sv : List ℕ} {b : List ℤ} → Taken n b → sv ≡ served_of n.kinds → Given n sv b
 taken_given t e = record { accepted = t.accepted; based = t.based; marks = e }

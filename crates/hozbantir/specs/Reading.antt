@@ -1,25 +1,12 @@
 -- How the code meets read back: what it holds of a netlist and a result that were judged, and what it leaves.
-use Rattle.std.specs.Prelude.{◌≡◌, refl, List, ◌++◌, ℕ, ◌≤◌, ℤ, length, take, drop}
-use Rattle.std.proofs.Math.Path.{sym, ap}
-use Rattle.std.proofs.Common.{◌∙◌, arith, length-take-le, take_at}
+use Rattle.std.specs.Prelude.{◌≡◌, List, ℕ, ◌≤◌, ℤ, length, take}
 use Rattle.circuit.specs.Netlist.{served_of}
-use Rattle.circuit.proofs.ServedLaws.{length-served}
-use Rattle.netlists.specs.declared.Verdict.{Verdict}
-use Rattle.netlists.specs.declared.Verdict.TheVariants as J
-use Rattle.netlists.specs.Judge.{net_on, board_of, judge_of}
-use Rattle.netlists.specs.Held.{Arrays, BoardIn, Judges}
-use Rattle.results.specs.declared.Told.{Told}
-use Rattle.results.specs.declared.Told.TheVariants as T
-use Rattle.results.specs.Result.{told_of, increments_of, bounds_read}
-use Rattle.results.specs.Judging.{Heard}
+use Rattle.netlists.specs.Judge.{board_of}
+use Rattle.results.specs.Result.{increments_of}
 use Rattle.results.specs.Columns.{Columns, Bases, Increments}
-use Rattle.results.specs.Bounds.{length-read}
-use Rattle.results.specs.Accepted as Q
 use Rattle.hozbantir.specs.declared.answers.Answer.{Answer}
-use Rattle.hozbantir.specs.declared.answers.Answer.TheVariants.{Done, Result}
-use Rattle.hozbantir.specs.Answers.{number_of, place_of, refusal, in_room, on_verdict, on_told}
-use Rattle.hozbantir.specs.Calls.{taken_of, result_on, both_of, said_of, bounds_on, read_back_of}
-use Rattle.hozbantir.specs.Taken.{Taken}
+use Rattle.hozbantir.specs.declared.answers.Answer.TheVariants.{Done}
+use Rattle.hozbantir.specs.Calls.{result_on, both_of, said_of}
 
 -- ---- the result
 

@@ -1,26 +1,13 @@
 -- How the code meets analyse: the times that it holds of a netlist that was judged, their slacks, and what it leaves.
-use Rattle.std.specs.Prelude.{◌≡◌, refl, List, ◌++◌, ℕ, ◌<◌, ◌≤◌, ℤ, pos, length, get_or, take, drop}
-use Rattle.std.proofs.Common.{sym, ap, ◌∙◌, arith, length-take-le, take_at}
-use Rattle.whole.specs.Whole.{whole}
+use Rattle.std.specs.Prelude.{◌≡◌, List, ℕ, ◌≤◌, ℤ, length, take}
 use Rattle.circuit.specs.Lists.{tabulate}
-use Rattle.circuit.proofs.ListLaws.{length-tabulate, get_or-tabulate}
-use Rattle.circuit.specs.Netlist.{Netlist, parts}
-use Rattle.circuit.specs.Times.{arrivals, requireds, slack_at, slacks}
-use Rattle.circuit.proofs.TimesLaws.{length-arrivals}
-use Rattle.circuit.proofs.ClockLaws.{clock}
-use Rattle.circuit.proofs.SafeLaws.{slack_range}
-use Rattle.timing.specs.Ready.{Ready, Gauged, Narrow}
-use Rattle.timing.specs.Bounds.{times_gauged}
-use Rattle.rounds.specs.Budgets.{given_ready}
-use Rattle.netlists.specs.declared.Verdict.{Verdict}
-use Rattle.netlists.specs.declared.Verdict.TheVariants as J
+use Rattle.circuit.specs.Netlist.{Netlist}
+use Rattle.circuit.specs.Times.{arrivals, requireds, slack_at}
+use Rattle.timing.specs.Ready.{Gauged, Narrow}
 use Rattle.netlists.specs.Judge.{net_on, board_of}
-use Rattle.netlists.specs.Held.{Arrays, BoardIn, Judges}
 use Rattle.hozbantir.specs.declared.answers.Answer.{Answer}
 use Rattle.hozbantir.specs.declared.answers.Answer.TheVariants.{Done}
-use Rattle.hozbantir.specs.Answers.{number_of, place_of, refusal, in_room, on_verdict}
-use Rattle.hozbantir.specs.Calls.{taken_of, analysis_on, analysis_of}
-use Rattle.hozbantir.specs.Taken.{Taken, net_in}
+use Rattle.hozbantir.specs.Calls.{taken_of}
 
 -- the slacks of arrivals a and required times r
 abbrev pub slacks_by : (a r : List ℤ) → List ℤ

@@ -1,15 +1,11 @@
 -- How the exports meet what they send: numbers put one after the other into bytes, and the answer as one number.
 use Rattle.std.specs.Prelude.{◌≡◌, ℕ, suc, ◌+◌, ◌*◌, ◌<◌, ◌≤◌, length, get_or, take, drop}
 use Rattle.std.proofs.Math.Path.{refl}
-use Rattle.std.proofs.Common.{sym, ◌∙◌, arith, add-one, length-append, take-suc, take_all}
+use Rattle.std.proofs.Common.{arith, add-one, length-append, take-suc, take_all}
 use mathlib.Core.List.{List, [], ◌∷◌, ◌++◌, append_assoc, append-nil}
-use Rattle.whole.specs.Pick.{lt, if_yes, if_no}
 use Rattle.whole.specs.Bytes.{bytes_of, put_at, length-bytes}
 use Rattle.results.specs.Writing.{Begun, begun_none, begun_put}
-use Rattle.hozbantir.specs.declared.answers.Answer.{Answer}
-use Rattle.hozbantir.specs.declared.answers.Answer.TheVariants.{Done, Room}
-use Rattle.hozbantir.specs.Answers.{place_of, Left, left, refusal, in_room, Leaves}
-use Rattle.hozbantir.specs.Exports.{code_of, spread, sent, Sends}
+use Rattle.hozbantir.specs.Exports.{spread}
 
 module _ {A : Type 0} (f : A → ℕ) where
   spread_append : (xs ys : List A) → spread f (xs ++ ys) ≡ spread f xs ++ spread f ys

@@ -1,17 +1,8 @@
 -- A netlist that the reader took, as the budget asks for it.
-use Rattle.std.specs.Prelude.{◌≡◌, List, ℕ, ◌≤◌, ℤ, length, take}
-use Rattle.std.proofs.Common.{sym, ◌∙◌, arith, length-take-le}
-use Rattle.circuit.specs.Netlist.{Netlist, netlist, served_of, Based}
+use Rattle.std.specs.Prelude.{List, ℕ, ◌≤◌, ℤ, length, take}
+use Rattle.circuit.specs.Netlist.{Netlist, netlist, Based}
 use Rattle.circuit.specs.Times.{Accepted}
-use Rattle.circuit.proofs.TimesLaws.{rising_order}
-use Rattle.rounds.specs.Budgets.{Given}
-use Rattle.netlists.specs.declared.Verdict.{Verdict}
-use Rattle.netlists.specs.declared.Verdict.TheVariants.{Good}
-use Rattle.netlists.specs.Held.{Arrays, LongParts, LongWires, BoardIn, Judges}
-use Rattle.netlists.specs.Judge.{net_on, board_of, judge_of}
-use Rattle.netlists.specs.Accepted.{accepted}
-use Rattle.hozbantir.specs.declared.answers.Answer.TheVariants.{Done}
-use Rattle.hozbantir.specs.Calls.{taken_of}
+use Rattle.netlists.specs.Held.{Arrays}
 
 -- an accepted netlist, and its base delays
 pub record Taken (n : Netlist) (b : List ℤ) : Type 0 where
