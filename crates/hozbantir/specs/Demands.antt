@@ -42,7 +42,7 @@ increment_in s q x = get_or (said_of s q) x 0
 -- ---- demand 3
 
 -- Of the bytes q that budget wrote in mode 1: their share and their increments meet demand 3, for the circuit of the netlist. (a) "every component
--- that isn't an input gets at least the equal share" is `at_least_lem` of `Demand3`; (b) "the most whole picoseconds that all of them could take at
+-- that isn't an input gets at least the equal share" is `at_least` of `Demand3`; (b) "the most whole picoseconds that all of them could take at
 -- once with every path in time" is `the_most`; (c) "no in-time budget in whole picoseconds does better by its worst-served component" is
 -- `none_better`; (d) "every path stays in time" and (e) "one picosecond more on any single one of these bounds makes some path late" are `full`.
 pub record Even (s q : List ℕ) : Type 0 where
