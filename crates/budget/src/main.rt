@@ -1,94 +1,113 @@
 // Prints the budget of a netlist in both modes. Reads at most 65,536 bytes from standard input, and judges those.
 #![tactic(auto)]
 
-ghost use Rattle.std.specs.Prelude.{◌+◌, ◌≤◌, length};
+ghost use Rattle.std.specs.Prelude.{◌+◌, ◌≤◌, ◌<◌, length, take, IfOk};
+ghost use Rattle.std.specs.Io.{ReadsAtMost};
+ghost use Rattle.std.specs.Io.KnownBytes.{Consumes, IsAtEnd};
 
 use hozbantir::Answer;
+use std::io;
+use std::io::Read;
 
-fn space() {
-    io::write_all(1, b" ");
+fn space(rt: &impl Print) -> io::Result<()> {
+    print!(rt; " ")
 }
 
-fn end_line() {
-    io::write_all(1, b"\n");
+fn end_line(rt: &impl Print) -> io::Result<()> {
+    println!(rt)
 }
 
 // The refusal's number and place.
-fn refused(a: Answer) {
-    io::write_all(1, b"refused ");
-    io::print_decimal(1, hozbantir::number(a) as u64);
-    space();
-    io::print_decimal(1, hozbantir::place(a) as u64);
-    end_line();
+fn refused(rt: &impl Print, a: Answer) -> io::Result<()> {
+    print!(rt; "refused {}", hozbantir::number(a))?;
+    space(rt)?;
+    print!(rt; "{}", hozbantir::place(a))?;
+    end_line(rt)
 }
 
 // The mode, and what the summary says of it.
-fn head(mode: u32, res: &[u8])
+fn head(rt: &impl Print, mode: u32, res: &[u8]) -> io::Result<()>
     requires { 10 ≤ length res.now }
 {
-    io::write_all(1, b"mode ");
-    io::print_decimal(1, mode as u64);
-    io::write_all(1, b" share ");
-    io::print_decimal(1, whole::u32_at(res, 4) as u64);
-    io::write_all(1, b" rounds ");
-    io::print_decimal(1, whole::u16_at(res, 8) as u64);
-    end_line();
+    let share = whole::u32_at(res, 4);
+    let rounds = whole::u16_at(res, 8);
+    print!(rt; "mode {mode} share {share} rounds {rounds}")?;
+    end_line(rt)
 }
 
 // The bound at this place: component, base delay, increment, and the two together.
-fn row(res: &[u8], at: usize)
+fn row(rt: &impl Print, res: &[u8], at: usize) -> io::Result<()>
     requires { at + 13 ≤ length res.now }
 {
     let base = whole::u32_at(res, at + 5) as u64;
     let increment = whole::u32_at(res, at + 9) as u64;
-    io::print_decimal(1, whole::u16_at(res, at + 3) as u64);
-    space();
-    io::print_decimal(1, base);
-    space();
-    io::print_decimal(1, increment);
-    space();
-    io::print_decimal(1, base + increment);
-    end_line();
+    print!(rt; "{}", whole::u16_at(res, at + 3))?;
+    space(rt)?;
+    print!(rt; "{base}")?;
+    space(rt)?;
+    print!(rt; "{increment}")?;
+    space(rt)?;
+    print!(rt; "{}", base + increment)?;
+    end_line(rt)
 }
 
-fn rows(res: &[u8])
+fn rows(rt: &impl Print, res: &[u8]) -> io::Result<()>
     requires { 10 ≤ length res.now }
 {
     let mut at: usize = 10;
     while at + 13 <= res.len() {
-        row(res, at);
+        row(rt, res, at)?;
         at += 13;
     }
+    Ok(())
 }
 
-fn listing(mode: u32, res: &[u8])
+fn listing(rt: &impl Print, mode: u32, res: &[u8]) -> io::Result<()>
     requires { 10 ≤ length res.now }
 {
-    head(mode, res);
-    rows(res);
+    head(rt, mode, res)?;
+    rows(rt, res)
 }
 
 // A budget in a mode, or its refusal; whether there was one.
-fn show_mode(mode: u32, netlist: &[u8], res: &mut [u8]) -> bool {
+fn show_mode(rt: &impl Print, mode: u32, netlist: &[u8], res: &mut [u8]) -> io::Result<bool> {
     let a = hozbantir::budget(mode, netlist, res);
     if hozbantir::number(a) != 0 {
-        refused(a);
-        return false;
+        refused(rt, a)?;
+        return Ok(false);
     }
-    listing(mode, &res[..hozbantir::place(a)]);
-    true
+    listing(rt, mode, &res[..hozbantir::place(a)])?;
+    Ok(true)
 }
 
 // A netlist that is refused in one mode is refused alike in the other.
-fn show(netlist: &[u8], res: &mut [u8]) {
-    if show_mode(0, netlist, res) {
-        show_mode(1, netlist, res);
+fn show(rt: &impl Print, netlist: &[u8], res: &mut [u8]) -> io::Result<()> {
+    if show_mode(rt, 0, netlist, res)? {
+        show_mode(rt, 1, netlist, res)?;
     }
+    Ok(())
 }
 
-fn main() {
-    let mut netlist = io::large_buffer();
-    let mut result = io::large_buffer();
-    let n = io::read_full(0, &mut netlist);
-    show(&netlist[..n], &mut result);
+// Reads until buf is full or the input ends, and returns how many bytes it put at the start of buf.
+fn read_full<R: Read>(reader: &mut R, buf: &mut [u8]) -> io::Result<usize>
+    ensures bound { ReadsAtMost result buf.new }
+    ensures bytes { IfOk result (λ n. Consumes (R.remaining reader.old) (R.remaining reader.new) (take n buf.new)) }
+    ensures end { IfOk result (λ n. n < length buf.new → IsAtEnd (R.remaining reader.new)) }
+{
+    let mut done = 0;
+    while done < buf.len() {
+        let n = reader.read(&mut buf[done..])?;
+        if n == 0 {
+            break;
+        }
+        done += n;
+    }
+    Ok(done)
+}
+
+fn main(rt: HostRuntime) -> io::Result<()> {
+    let mut netlist = [0u8; 65536];
+    let mut result = [0u8; 65536];
+    let n = read_full(&mut rt.reader(), &mut netlist)?;
+    show(&rt, &netlist[..n], &mut result)
 }

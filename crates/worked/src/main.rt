@@ -6,6 +6,7 @@ ghost use Rattle.std.specs.Prelude.{◌≡◌, ◌+◌, ◌*◌, ◌<◌, ◌≤
 ghost use Rattle.segments.specs.Lent.{Loaded};
 
 use hozbantir::Answer;
+use std::io;
 
 // A line is a record: a component's kind, base delay and time, or where a connection comes from and goes to.
 const CIRCUIT_A: [u8; 69] = *b"\
@@ -29,123 +30,113 @@ const CIRCUIT_C: [u8; 76] = *b"\
 
 // ---- the output
 
-fn number(x: u64) {
-    io::write_all(1, b" ");
-    io::print_decimal(1, x);
+fn number(rt: &impl Print, x: u64) -> io::Result<()> {
+    print!(rt; " {x}")
 }
 
-// By its bits, in two's complement.
-fn signed(x: i32) {
-    let bits = whole::bits32(x);
-    io::write_all(1, b" ");
-    if bits < 2147483648 {
-        io::print_decimal(1, bits as u64);
-    } else {
-        io::write_all(1, b"-");
-        io::print_decimal(1, 4294967296 - bits as u64);
-    }
+fn signed(rt: &impl Print, x: i32) -> io::Result<()> {
+    print!(rt; " {x}")
 }
 
-fn end_line() {
-    io::write_all(1, b"\n");
+fn end_line(rt: &impl Print) -> io::Result<()> {
+    println!(rt)
 }
 
-fn answer(a: Answer) {
-    number(hozbantir::number(a) as u64);
-    number(hozbantir::place(a) as u64);
+fn answer(rt: &impl Print, a: Answer) -> io::Result<()> {
+    number(rt, hozbantir::number(a) as u64)?;
+    number(rt, hozbantir::place(a) as u64)
 }
 
-fn slacks(numbers: &[i32]) {
+fn slacks(rt: &impl Print, numbers: &[i32]) -> io::Result<()> {
     let mut i = 0;
     while i < numbers.len() {
-        signed(numbers[i]);
+        signed(rt, numbers[i])?;
         i += 1;
     }
-    end_line();
+    end_line(rt)
 }
 
-fn bound(x: u32) {
-    number(x as u64);
+fn bound(rt: &impl Print, x: u32) -> io::Result<()> {
+    number(rt, x as u64)
 }
 
-fn bounds(numbers: &[u32]) {
+fn bounds(rt: &impl Print, numbers: &[u32]) -> io::Result<()> {
     let mut i = 0;
     while i < numbers.len() {
-        bound(numbers[i]);
+        bound(rt, numbers[i])?;
         i += 1;
     }
-    end_line();
+    end_line(rt)
 }
 
 // ---- the calls
 
 // The answer and the whole buffer, which held sevens before.
-fn analysed(netlist: &[u8]) {
+fn analysed(rt: &impl Print, netlist: &[u8]) -> io::Result<()> {
     let mut buffer = [7i32; 4];
     let a = hozbantir::analyse(netlist, &mut buffer);
-    io::write_all(1, b"slacks");
-    answer(a);
-    slacks(&buffer);
+    print!(rt; "slacks")?;
+    answer(rt, a)?;
+    slacks(rt, &buffer)
 }
 
 // The result, read back into a buffer of sevens.
-fn read(netlist: &[u8], res: &[u8]) {
+fn read(rt: &impl Print, netlist: &[u8], res: &[u8]) -> io::Result<()> {
     let mut buffer = [7u32; 4];
     let a = hozbantir::read_back(netlist, res, &mut buffer);
-    io::write_all(1, b"bounds");
-    answer(a);
-    bounds(&buffer);
+    print!(rt; "bounds")?;
+    answer(rt, a)?;
+    bounds(rt, &buffer)
 }
 
 // What the summary says.
-fn summary(res: &[u8])
+fn summary(rt: &impl Print, res: &[u8]) -> io::Result<()>
     requires { 10 ≤ length res.now }
 {
-    io::write_all(1, b" share");
-    number(whole::u32_at(res, 4) as u64);
-    io::write_all(1, b" rounds");
-    number(whole::u16_at(res, 8) as u64);
-    end_line();
+    print!(rt; " share")?;
+    number(rt, whole::u32_at(res, 4) as u64)?;
+    print!(rt; " rounds")?;
+    number(rt, whole::u16_at(res, 8) as u64)?;
+    end_line(rt)
 }
 
-fn told(netlist: &[u8], res: &[u8])
+fn told(rt: &impl Print, netlist: &[u8], res: &[u8]) -> io::Result<()>
     requires { 10 ≤ length res.now }
 {
-    summary(res);
-    read(netlist, res);
+    summary(rt, res)?;
+    read(rt, netlist, res)
 }
 
-fn budgeted_in(mode: u32, netlist: &[u8], res: &mut [u8]) {
+fn budgeted_in(rt: &impl Print, mode: u32, netlist: &[u8], res: &mut [u8]) -> io::Result<()> {
     let a = hozbantir::budget(mode, netlist, res);
-    io::write_all(1, b"mode");
-    number(mode as u64);
-    answer(a);
+    print!(rt; "mode")?;
+    number(rt, mode as u64)?;
+    answer(rt, a)?;
     if hozbantir::number(a) != 0 {
-        end_line();
-        return;
+        return end_line(rt);
     }
-    told(netlist, &res[..hozbantir::place(a)]);
+    told(rt, netlist, &res[..hozbantir::place(a)])
 }
 
-fn budgeted(mode: u32, netlist: &[u8]) {
+fn budgeted(rt: &impl Print, mode: u32, netlist: &[u8]) -> io::Result<()> {
     let mut result = [0u8; 49];
-    budgeted_in(mode, netlist, &mut result);
+    budgeted_in(rt, mode, netlist, &mut result)
 }
 
-fn show(netlist: &[u8]) {
-    analysed(netlist);
-    budgeted(0, netlist);
-    budgeted(1, netlist);
+fn show(rt: &impl Print, netlist: &[u8]) -> io::Result<()> {
+    analysed(rt, netlist)?;
+    budgeted(rt, 0, netlist)?;
+    budgeted(rt, 1, netlist)
 }
 
 // One byte less than the result of circuit A takes.
-fn show_short() {
+fn show_short(rt: &impl Print) -> io::Result<()> {
     let mut result = [0u8; 35];
-    budgeted_in(1, &CIRCUIT_A, &mut result);
+    budgeted_in(rt, 1, &CIRCUIT_A, &mut result)
 }
 
 // Circuit B, with its output's required time, whose low byte ends the third record.
-fn show_b(required: u8) {
+fn show_b(rt: &impl Print, required: u8) -> io::Result<()> {
     let mut s = *b"\
         \x01\x00\x09\x00\x00\x00\x00\x00\x00\x00\x00\x00\
         \x01\x00\x09\x01\x00\x00\x00\x04\x00\x00\x00\x00\
@@ -153,34 +144,35 @@ fn show_b(required: u8) {
         \x02\x00\x04\x00\x00\x00\x01\
         \x02\x00\x04\x00\x01\x00\x02";
     s[35] = required;
-    show(&s);
+    show(rt, &s)
 }
 
 // ---- the walk
 
-fn name(x: u16) {
-    io::print_decimal(1, x as u64);
+fn name(rt: &impl Print, x: u16) -> io::Result<()> {
+    print!(rt; "{x}")
 }
 
-fn next_name(x: u16) {
-    io::write_all(1, b" ");
-    name(x);
+fn next_name(rt: &impl Print, x: u16) -> io::Result<()> {
+    print!(rt; " ")?;
+    name(rt, x)
 }
 
 // The components from place start on, before place end.
-fn segment(seg: &[u16], start: usize, end: usize)
+fn segment(rt: &impl Print, seg: &[u16], start: usize, end: usize) -> io::Result<()>
     requires { (start < end) × (end ≤ length seg.now) }
 {
-    name(seg[start]);
+    name(rt, seg[start])?;
     let mut i = start + 1;
     while i < end {
-        next_name(seg[i]);
+        next_name(rt, seg[i])?;
         i += 1;
     }
-    end_line();
+    end_line(rt)
 }
 
 fn walk_on(
+    rt: &impl Print,
     seg: &mut [u16],
     from: &[u16],
     to: &[u16],
@@ -189,16 +181,16 @@ fn walk_on(
     arr: &[i64],
     req: &[i64],
     x: usize,
-)
+) -> io::Result<()>
     requires loaded { Loaded from.now to.now served.now d.now arr.now req.now }
     requires x_in_bounds { (x < length d.now) × (length d.now ≤ 1024) × (length seg.old ≡ 2 * length d.now + 1) }
 {
     let span = segments::walk(seg, from, to, served, d, arr, req, x);
-    segment(seg, span.start, span.end);
+    segment(rt, seg, span.start, span.end)
 }
 
 // The walk from x in circuit D, at given delays, arrivals and required times.
-fn walk_d(x: usize)
+fn walk_d(rt: &impl Print, x: usize) -> io::Result<()>
     requires { x < 4 }
 {
     let from: [u16; 3] = [2, 3, 0];
@@ -208,11 +200,11 @@ fn walk_d(x: usize)
     let arr: [i64; 4] = [0, 9, 7, 4];
     let req: [i64; 4] = [6, 15, 13, 10];
     let mut seg = [0u16; 9];
-    walk_on(&mut seg, &from, &to, &served, &d, &arr, &req, x);
+    walk_on(rt, &mut seg, &from, &to, &served, &d, &arr, &req, x)
 }
 
 // The same in circuit E, where the walk back has four connections to choose from.
-fn walk_e(x: usize)
+fn walk_e(rt: &impl Print, x: usize) -> io::Result<()>
     requires { x < 8 }
 {
     let from: [u16; 9] = [2, 3, 4, 5, 0, 6, 6, 6, 3];
@@ -222,22 +214,22 @@ fn walk_e(x: usize)
     let arr: [i64; 8] = [0, 6, 3, 4, 4, 4, 1, 5];
     let req: [i64; 8] = [4, 9, 7, 5, 7, 7, 2, 6];
     let mut seg = [0u16; 17];
-    walk_on(&mut seg, &from, &to, &served, &d, &arr, &req, x);
+    walk_on(rt, &mut seg, &from, &to, &served, &d, &arr, &req, x)
 }
 
-fn main() {
-    show(&CIRCUIT_A);
-    budgeted(2, &CIRCUIT_A);
-    show_short();
-    show_b(9);
-    show_b(10);
-    show_b(11);
-    show_b(12);
-    show_b(13);
-    show(&CIRCUIT_C);
-    show(b"");
-    show(b"\x01\x00");
-    walk_d(1);
-    walk_d(2);
-    walk_e(1);
+fn main(rt: HostRuntime) -> io::Result<()> {
+    show(&rt, &CIRCUIT_A)?;
+    budgeted(&rt, 2, &CIRCUIT_A)?;
+    show_short(&rt)?;
+    show_b(&rt, 9)?;
+    show_b(&rt, 10)?;
+    show_b(&rt, 11)?;
+    show_b(&rt, 12)?;
+    show_b(&rt, 13)?;
+    show(&rt, &CIRCUIT_C)?;
+    show(&rt, b"")?;
+    show(&rt, b"\x01\x00")?;
+    walk_d(&rt, 1)?;
+    walk_d(&rt, 2)?;
+    walk_e(&rt, 1)
 }
