@@ -108,6 +108,6 @@ fn read_full<R: Read>(reader: &mut R, buf: &mut [u8]) -> io::Result<usize>
 fn main(rt: HostRuntime) -> io::Result<()> {
     let mut netlist = [0u8; 65536];
     let mut result = [0u8; 65536];
-    let n = read_full(&mut rt.reader(), &mut netlist)?;
+    let n = read_full(&mut rt.stdin(), &mut netlist)?;
     show(&rt, &netlist[..n], &mut result)
 }
