@@ -12,7 +12,7 @@ ghost use Rattle.netlists.specs.Held.{component_of, connection_of, time_in, arra
 use records::Found;
 
 // How a netlist is judged: taken, with the numbers of components and connections, or refused, with the place (document 01, refusals 2 to 7).
-#[derive(Drop)]
+#[derive(Clone, Copy)]
 pub enum Verdict {
     Good(usize, usize),
     Broken(usize),
@@ -25,7 +25,7 @@ pub enum Verdict {
 
 // Between two records: the offset of the next, how many components and connections were stored, and the least key that the next connection
 // may have.
-#[derive(Drop)]
+#[derive(Clone, Copy)]
 struct State {
     at: usize,
     comps: usize,
@@ -34,14 +34,14 @@ struct State {
 }
 
 // What a record leads to: the next state, or a verdict.
-#[derive(Drop)]
+#[derive(Clone, Copy)]
 enum Stepped {
     Go(State),
     Stop(Verdict),
 }
 
 // The fields of a component's record, and of a connection's.
-#[derive(Drop)]
+#[derive(Clone, Copy)]
 struct Component {
     kind: u8,
     base: u32,

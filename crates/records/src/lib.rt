@@ -7,7 +7,7 @@ ghost use Rattle.records.specs.Record.{record_at, part_of};
 
 // What stands at a place of a file: a record, whose contents are the `len` bytes from `start` on and after which the next begins; too few
 // bytes for one; or the file's end.
-#[derive(Drop)]
+#[derive(Clone, Copy)]
 pub enum Found {
     Record {
         tag: u8,
@@ -60,7 +60,7 @@ pub fn contents(s: &[u8], start: usize, len: usize) -> &[u8]
 
 // The record reader: it remembers the file it was given and its place in it. There are few functions over it, and each takes the reader apart
 // and leaves the work to a function above.
-#[derive(Drop)]
+#[derive(Clone, Copy)]
 pub struct Reader<'a> {
     pub src: &'a [u8],
     pub at: usize,

@@ -18,7 +18,7 @@ const SUMMARY_TAG: u8 = 16;
 const BOUND_TAG: u8 = 17;
 
 // How a result is judged: what its summary says, or the offset of the first record unlike the one due there (document 01, refusal 11).
-#[derive(Drop)]
+#[derive(Clone, Copy)]
 pub enum Told {
     Result { mode: u8, share: u32, rounds: u16 },
     Wrong(usize),
@@ -26,7 +26,7 @@ pub enum Told {
 
 // What stands where a component's bound is due: the right one, with where the next record begins and the increment it says, or one that decides
 // by its place.
-#[derive(Drop)]
+#[derive(Clone, Copy)]
 enum Bound {
     Good { next: usize, increment: u32 },
     Bad(usize),

@@ -11,7 +11,7 @@ use crate::lifts::lift;
 use crate::runs::run;
 
 // Late, at a component; or the share, and how many rounds were done.
-#[derive(Drop)]
+#[derive(Clone, Copy)]
 pub enum Outcome {
     Late(usize),
     Budget { share: u32, rounds: usize },

@@ -63,7 +63,7 @@ fn walk_back(
 }
 
 // Where a segment stands: from start, up to end and not at it.
-#[derive(Drop)]
+#[derive(Clone, Copy)]
 pub struct Span {
     pub start: usize,
     pub end: usize,
