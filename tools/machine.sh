@@ -1,5 +1,6 @@
 # Sourced by the scripts that run or build x86-64 code. On an x86-64 machine such code runs as it is and the machine's own C compiler makes it; on
-# another the toolchain's emulator runs it, and the toolchain's compiler and C library make it. Sets
+# another the toolchain's emulator runs it, and the toolchain's compiler and C library make it, where the toolchain has them: the one that the README
+# names has no emulator. Sets
 #
 #   emulate     the words before the name of an x86-64 program that start it here
 #   compiler    the C compiler

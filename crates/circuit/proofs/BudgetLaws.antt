@@ -19,7 +19,8 @@ use Rattle.circuit.proofs.ShareLaws.{lift_least, lift_more, lift_at, share_bound
 use Rattle.circuit.proofs.ServedLaws.{length-served, serves_is, serves_no, serves_part, some_served}
 use Rattle.circuit.proofs.LateLaws.{FirstLate, late_le, late_is, in_time_is, in_time_holds, late_none_is, late_none_holds}
 use Rattle.circuit.proofs.ClockLaws.{Clock}
-use Rattle.circuit.proofs.SafeLaws.{Safe, safe_timed, slack_range, based_bounded}
+use Rattle.circuit.specs.Safe.{Safe}
+use Rattle.circuit.proofs.SafeLaws.{safe_timed, slack_range, based_bounded}
 use Rattle.circuit.proofs.DescentLaws.{length-lifted, lifted_at, lifted_is, Tells, share_found}
 use Rattle.circuit.proofs.FinalLaws.{Start}
 

@@ -20,7 +20,8 @@ use Rattle.circuit.proofs.GiftLaws.{over}
 use Rattle.circuit.proofs.ShareLaws.{share_least}
 use Rattle.circuit.proofs.ServedLaws.{serves_is, serves_part}
 use Rattle.circuit.proofs.ClockLaws.{Clock}
-use Rattle.circuit.proofs.SafeLaws.{Safe, safe_timed, safe_bounded}
+use Rattle.circuit.specs.Safe.{Safe}
+use Rattle.circuit.proofs.SafeLaws.{safe_timed, safe_bounded}
 use Rattle.circuit.proofs.RunLaws.{positives, positive_is, Done, run_done, run_found, run_is}
 
 -- delays d to start rounds from: in time, nowhere below base, and at least t above base on each served component

@@ -23,7 +23,8 @@ use Rattle.circuit.proofs.ServedLaws.{length-served, serves_is, serves_part, ser
 use Rattle.circuit.proofs.ChoiceLaws.{Chosen, choice_is, choice_none}
 use Rattle.circuit.proofs.WalkLaws.{segment_is, segment_served}
 use Rattle.circuit.proofs.ClockLaws.{Clock}
-use Rattle.circuit.proofs.SafeLaws.{Safe, safe_timed}
+use Rattle.circuit.specs.Safe.{Safe}
+use Rattle.circuit.proofs.SafeLaws.{safe_timed}
 
 -- how many served components have positive slack
 abbrev pub positives : Netlist → List ℤ → ℕ

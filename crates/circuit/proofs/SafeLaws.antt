@@ -1,26 +1,20 @@
 -- Delays that keep a circuit in time are at most 200,000,000, so that their times can be worked out; and how far analysed slack goes.
-use Rattle.std.specs.Prelude.{◌≡◌, ◌⊎◌, true, List, [], ℕ, ◌*◌, ◌<◌, ◌^◌, ℤ, negsuc, ◌≤ℤ◌, length}
+use Rattle.std.specs.Prelude.{◌≡◌, ◌⊎◌, true, List, [], ℕ, ◌*◌, ◌<◌, ◌^◌, ℤ, negsuc, ◌≤ℤ◌}
 use Rattle.std.proofs.Math.Path.{refl}
 use Rattle.std.proofs.Common.{inl, inr, arith}
 use Rattle.std.proofs.Math.Decide.{ℕ_discrete}
 use Rattle.std.proofs.Math.IntN.{pos}
 use Rattle.whole.specs.Whole.{whole, sum, diff}
 use Rattle.whole.specs.Range.{Within, Bounded, bounded_more}
-use Rattle.circuit.specs.Circuit.{Path, begin, into, To, From, reach, InTime, Timed}
+use Rattle.circuit.specs.Circuit.{Path, begin, into, To, From, reach, Timed}
 use Rattle.circuit.specs.Lists.{at}
 use Rattle.circuit.specs.Netlist.{Netlist, parts, wires, kind, from, to, net_of, circuit_of, serves, Based}
 use Rattle.circuit.specs.Times.{arrivals, requireds, slack_at}
+use Rattle.circuit.specs.Safe.{Safe}
 use Rattle.circuit.proofs.SlackLaws.{join, last_way, first_way, lemma2}
 use Rattle.circuit.proofs.RangeLaws.{origin, finish, reach_most, reach_least, entry_most}
 use Rattle.circuit.proofs.ServedLaws.{serves_yes, serves_kind, serves_part}
 use Rattle.circuit.proofs.ClockLaws.{Clock}
-
--- delays as the rounds have them: none negative, none at an input, in time
-pub record Safe (n : Netlist) (d : List ℤ) : Type 0 where
-  pub all : length d ≡ parts n
-  pub least : (x : ℕ) → pos 0 ≤ℤ at d x
-  pub quiet : (x : ℕ) → kind n x ≡ 0 → at d x ≡ pos 0
-  pub safe : InTime (circuit_of n) (at d)
 
 -- where analysed slack lies
 pub record Analysed (z : ℤ) : Type 0 where

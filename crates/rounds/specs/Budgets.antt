@@ -14,7 +14,8 @@ use Rattle.circuit.specs.Budget as C
 use Rattle.circuit.proofs.ServedLaws.{length-served}
 use Rattle.circuit.proofs.LateLaws.{late_le, late_none_is}
 use Rattle.circuit.proofs.ClockLaws.{clock}
-use Rattle.circuit.proofs.SafeLaws.{Safe, based_bounded}
+use Rattle.circuit.specs.Safe.{Safe}
+use Rattle.circuit.proofs.SafeLaws.{based_bounded}
 use Rattle.circuit.proofs.BudgetLaws.{lifted_bounded, start_is, budget_is}
 use Rattle.circuit.proofs.OutcomeLaws.{ends}
 use Rattle.timing.specs.Ready.{Ready}

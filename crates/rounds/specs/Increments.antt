@@ -8,7 +8,7 @@ use Rattle.circuit.proofs.ListLaws.{length-tabulate, get_or-tabulate}
 use Rattle.circuit.specs.Budget.{to_serve, start_in, final_from, increments, budget_of}
 use Rattle.circuit.specs.Budget as C
 use Rattle.circuit.proofs.ClockLaws.{clock}
-use Rattle.circuit.proofs.SafeLaws.{Safe}
+use Rattle.circuit.specs.Safe.{Safe}
 use Rattle.circuit.proofs.FinalLaws.{final_done}
 use Rattle.circuit.proofs.BudgetLaws.{start_is}
 use Rattle.circuit.proofs.OutcomeLaws.{OfMode, budget_says, rounds_most}

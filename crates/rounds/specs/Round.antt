@@ -8,7 +8,8 @@ use Rattle.circuit.specs.Times.{arrivals, requireds, slack_at, Accepted}
 use Rattle.circuit.specs.Rounds.{given, chosen, choice_of, moves, round_of}
 use Rattle.circuit.proofs.TimesLaws.{length-arrivals}
 use Rattle.circuit.proofs.ClockLaws.{clock}
-use Rattle.circuit.proofs.SafeLaws.{Safe, safe_bounded, safe_timed, slack_most}
+use Rattle.circuit.specs.Safe.{Safe}
+use Rattle.circuit.proofs.SafeLaws.{safe_bounded, safe_timed, slack_most}
 use Rattle.timing.specs.Ready.{Ready}
 use Rattle.timing.specs.Bounds.{times_gauged}
 use Rattle.segments.specs.Lent.{Loaded}

@@ -6,7 +6,7 @@ use Rattle.circuit.proofs.ListLaws.{count_le}
 use Rattle.circuit.specs.Times.{Accepted, arrivals, requireds}
 use Rattle.circuit.specs.Rounds.{Run, halt, turn, positive}
 use Rattle.circuit.proofs.ClockLaws.{clock}
-use Rattle.circuit.proofs.SafeLaws.{Safe}
+use Rattle.circuit.specs.Safe.{Safe}
 use Rattle.circuit.proofs.RunLaws.{positives, round_keeps, round_falls}
 use Rattle.rounds.specs.Round.{Rounded}
 

@@ -3,7 +3,7 @@ ghost use Rattle.std.specs.Prelude.{◌≡◌, length};
 ghost use Rattle.circuit.specs.Netlist.{netlist, served_of};
 ghost use Rattle.circuit.specs.Times.{Accepted};
 ghost use Rattle.circuit.specs.Rounds.{Run};
-ghost use Rattle.circuit.proofs.SafeLaws.{Safe};
+ghost use Rattle.circuit.specs.Safe.{Safe};
 ghost use Rattle.rounds.specs.Round.{Desk};
 
 use crate::turns::round;
