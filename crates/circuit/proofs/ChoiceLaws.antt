@@ -1,5 +1,5 @@
--- The choice: "Of non-inputs with positive slack, take the least slack, the lowest number among equals." (01, "Share and rounds"). `choice_of`
--- gives that component, and the component count exactly where there is none.
+-- The choice of a round: among the components that are served and have slack above zero, one of least slack, and of several such the one with the lowest
+-- number. `choice_of` gives that component, and the component count exactly where there is none.
 use Rattle.std.specs.Prelude.{◌≡◌, Bool, true, false, cond, ◌&&◌, ◌||◌, List, eqb, ℤ, pos, ◌<ℤ◌, ◌≤ℤ◌, length}
 use Rattle.std.proofs.Math.Path.{refl}
 use Rattle.std.proofs.Common.{sym, arith, ne_eqb}

@@ -90,9 +90,9 @@ module _ {n : Netlist} (k : Clock n) where
         by false e =
             let past = ltb-false x (parts n) e in
             let none = get_or-eq_default (tabulate rise (parts n)) 0 {n = x} (rw (length-tabulate rise (parts n)) past) in
-            let no-base = get_or-eq_default b (pos 0) {n = x} (rw g.all past) in
-            let no-delay = get_or-eq_default f (pos 0) {n = x} (rw done.safe.all past) in
-            rw (none, no-base, no-delay)
+            let no_base = get_or-eq_default b (pos 0) {n = x} (rw g.all past) in
+            let no_delay = get_or-eq_default f (pos 0) {n = x} (rw done.safe.all past) in
+            rw (none, no_base, no_delay)
 
     -- every path stays in time, and one picosecond more on any served component makes some path late
     pub full_from : Full (circuit_of n) (serves n) (bounds (at b) inc)

@@ -12,13 +12,13 @@ use Rattle.circuit.proofs.SegmentLaws.{segment_slack, spent}
 
 module _ {c : Circuit} {d a r d' a' r' : ℕ → ℤ} (t : Timed c d a r) (t' : Timed c d' a' r') (k : Ranked c.net) (h : d ⊑ d') where
   pub arrival_mono : {x : ℕ} → c.net.Part x → a x ≤ℤ a' x
-  arrival_mono x-part = let (p, e) = last_way t k x-part in omega (whole, e, reach_mono c h p, reach_le t' p)
+  arrival_mono x_part = let (p, e) = last_way t k x_part in omega (whole, e, reach_mono c h p, reach_le t' p)
 
   pub required_mono : {x : ℕ} → c.net.Part x → r' x ≤ℤ r x
-  required_mono x-part = let (q, e) = first_way t k x-part in omega (whole, e, due_mono c h q, due_le t' q)
+  required_mono x_part = let (q, e) = first_way t k x_part in omega (whole, e, due_mono c h q, due_le t' q)
 
   pub slack_mono : {x : ℕ} → c.net.Part x → slack a' r' x ≤ℤ slack a r x
-  slack_mono {x} x-part = omega (whole, arrival_mono x-part, required_mono x-part, diff (r x) (a x), diff (r' x) (a' x))
+  slack_mono {x} x_part = omega (whole, arrival_mono x_part, required_mono x_part, diff (r x) (a x), diff (r' x) (a' x))
 
 -- the equations have one solution
 pub times_unique : {c : Circuit} {d a r a' r' : ℕ → ℤ} → Timed c d a r → Timed c d a' r' → Ranked c.net → {x : ℕ} → c.net.Part x → (a x ≡ a' x) × (r x ≡ r' x)
@@ -53,8 +53,8 @@ module _ {c : Circuit} {d a r d' : ℕ → ℤ} (q : Round c d a r d') where
       -- and every member's slack at zero
       pub round_spends : (v : ℕ) → Memᴰ v (q.first ∷ q.rest) → slack a' r' v ≡ pos 0
       round_spends v m =
-          let first-served = q.served q.first (Memᴰ.head refl) in
-          spent t k q.gifts first-served.part q.segment safe (λ s g. (q.served s (q.members s g), q.members s g)) q.spends (rw (fun_ext q.after) at t') v (q.served v m).part m
+          let first_served = q.served q.first (Memᴰ.head refl) in
+          spent t k q.gifts first_served.part q.segment safe (λ s g. (q.served s (q.members s g), q.members s g)) q.spends (rw (fun_ext q.after) at t') v (q.served v m).part m
 
       -- a slack at zero stays there
       pub zero_stays : {x : ℕ} → c.net.Part x → slack a r x ≡ pos 0 → slack a' r' x ≡ pos 0

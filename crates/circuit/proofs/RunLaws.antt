@@ -146,11 +146,11 @@ module _ {n : Netlist} (k : Clock n) where
 
   -- what rounds that took the delays d to f leave: in time, no delay lowered, every served slack at zero, and no more rounds than there were
   -- served components with positive slack
-  pub record Done (d f : List ℤ) (rounds-done : ℕ) : Type 0 where
+  pub record Done (d f : List ℤ) (rounds_done : ℕ) : Type 0 where
     pub safe : Safe n f
     pub more : at d ⊑ at f
     pub spent : (x : ℕ) → serves n x ≡ true → slack_at (arrivals n f) (requireds n f) x ≡ pos 0
-    pub few : rounds-done ≤ positives n d
+    pub few : rounds_done ≤ positives n d
 
   -- a run leaves that
   pub run_done : {d f : List ℤ} {c : ℕ} → Run n sv d f c → Safe n d → Done d f c

@@ -40,9 +40,9 @@ module _ {c : Circuit} {d a r : ℕ → ℤ} where
     pub spent : {x : ℕ} {ys : List ℕ} {a' r' : ℕ → ℤ} (l : List (ℕ × ℕ)) → c.net.Part x → Segment c d a r x ys → InTime c d →
         ((s : ℕ) → Receives s l → Served c.net s × Memᴰ s (x ∷ ys)) → pos (total l) ≡ r x -ℤ a x →
         Timed c (give l d) a' r' → (v : ℕ) → c.net.Part v → Memᴰ v (x ∷ ys) → r' v -ℤ a' v ≡ pos 0
-    spent {x} {ys} {a'} {r'} l part h safe to whole-slack t' v v-part m =
+    spent {x} {ys} {a'} {r'} l part h safe to whole_slack t' v v_part m =
         let (q, f, has) = lemma4 part h in
         let late = all_hit c q.way l d (λ s g. ((to s g).0, has s (to s g).1)) in
-        let still = lemma3 t k safe l (λ s g. omega (whole, segment_slack h (to s g).1, whole-slack)) in
+        let still = lemma3 t k safe l (λ s g. omega (whole, segment_slack h (to s g).1, whole_slack)) in
         let z = c.time q.last in
-        omega (whole, late, f, whole-slack, in_time→slack t' k still v-part, lemma1 t' q (has v m), sum (reach c d q.way) (pos (total l)), diff z (reach c d q.way), diff z (reach c (give l d) q.way))
+        omega (whole, late, f, whole_slack, in_time→slack t' k still v_part, lemma1 t' q (has v m), sum (reach c d q.way) (pos (total l)), diff z (reach c d q.way), diff z (reach c (give l d) q.way))

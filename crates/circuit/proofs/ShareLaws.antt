@@ -38,10 +38,10 @@ module _ (c : Circuit) (who : ℕ → Bool) (d : ℕ → ℤ) where
 
   -- in time at t and not at t + 1: t is the share
   pub share_edge : {t : ℕ} → InTime c (lift who t d) → (InTime c (lift who (suc t) d) → ⊥) → Share c who d t
-  share_edge {t} safe not-safe = record { fits = safe; largest = λ u still. below u still (ltb t u) refl }
+  share_edge {t} safe not_safe = record { fits = safe; largest = λ u still. below u still (ltb t u) refl }
     where
       below : (u : ℕ) → InTime c (lift who u d) → (b : Bool) → ltb t u ≡ b → u ≤ t
-      below u still true e = absurd (not-safe (share_down (ltb-true t u e) still))
+      below u still true e = absurd (not_safe (share_down (ltb-true t u e) still))
       below u still false e = ltb-false t u e
 
   -- no assignment that is in time gives every picked component more than the share

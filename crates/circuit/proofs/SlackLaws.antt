@@ -111,9 +111,9 @@ module _ {c : Circuit} {d a r : ℕ → ℤ} (t : Timed c d a r) where
     pub in_time→slack : InTime c d → {x : ℕ} → c.net.Part x → pos 0 ≤ℤ slack a r x
     in_time→slack safe h = let (p, _, e) = lemma2 h in omega (whole, safe p, e)
 
-    module _ (ends-part : (x : ℕ) → c.net.Ends x → c.net.Part x) where
+    module _ (ends_part : (x : ℕ) → c.net.Ends x → c.net.Part x) where
       pub in_time_parts : InTime c d ↔ ((x : ℕ) → c.net.Part x → pos 0 ≤ℤ slack a r x)
-      in_time_parts = (λ safe x h. in_time→slack safe h, λ safe. ends→in_time (λ x e. safe x (ends-part x e)))
+      in_time_parts = (λ safe x h. in_time→slack safe h, λ safe. ends→in_time (λ x e. safe x (ends_part x e)))
 
       pub in_time_ends : InTime c d ↔ ((x : ℕ) → c.net.Ends x → pos 0 ≤ℤ slack a r x)
-      in_time_ends = (λ safe x e. in_time→slack safe (ends-part x e), λ safe. ends→in_time safe)
+      in_time_ends = (λ safe x e. in_time→slack safe (ends_part x e), λ safe. ends→in_time safe)

@@ -81,7 +81,7 @@ module _ (n : Netlist) (d a r : List ℤ) where
   unfolding level into
   taut_yes {x} {y} j e f t = rw (e, f) (and_yes (level d r x y) (level d a x y) (eq_yes _ _ t.same_required) (eq_yes _ _ t.same_arrival))
 
-  module _ (all-delays : length d ≡ parts n) (w : Wired n.froms n.tos (parts n)) (s : Sorted n.froms n.tos) where
+  module _ (all_delays : length d ≡ parts n) (w : Wired n.froms n.tos (parts n)) (s : Sorted n.froms n.tos) where
     -- forward, the targets rise
     forward : (x : ℕ) → Search (leads n.froms n.tos d a r x) (to n) (wires n) (length d) (Joined x)
     unfolding leads
@@ -90,7 +90,7 @@ module _ (n : Netlist) (d a r : List ℤ) where
           only = λ j l h. let (p, q) = both (eqb (from n j) x) (taut j) h in taut_is j l (eqb-true (from n j) x p) refl q;
           all = λ y t. let (j, l, p, q) = t.wire in (j, l, and_yes (eqb (from n j) x) (taut j) (eq-eqb (from n j) x p) (taut_yes j p q t), q);
           rise = λ i j l h p q. ⊎_elim (λ c. omega arith) (λ c. omega arith) (s.rise i j l h);
-          inside = λ j. rw all-delays (w.target j);
+          inside = λ j. rw all_delays (w.target j);
         }
 
     -- backward, the sources rise, since the target is x for all that pass
@@ -109,25 +109,25 @@ module _ (n : Netlist) (d a r : List ℤ) where
               let u = eqb-true (to n i) x (both (eqb (to n i) x) (marked sv (from n i) && taut i) p).0 in
               let v = eqb-true (to n j) x (both (eqb (to n j) x) (marked sv (from n j) && taut j) q).0 in
               ⊎_elim (λ c. omega arith) (λ c. omega arith) (s.rise i j l h);
-          inside = λ j. rw all-delays (w.source j);
+          inside = λ j. rw all_delays (w.source j);
         }
 
     -- forward: the lowest-numbered fan-out of x for which both equalities hold
     pub after_is : (x : ℕ) → after n.froms n.tos d a r x < parts n → Lowest (Tight (circuit_of n) (at d) (at a) (at r) x) (after n.froms n.tos d a r x)
     unfolding after
-    after_is x h = search_is (forward x) (first_of_lem _ _ 0 (wires n) _) all-delays h
+    after_is x h = search_is (forward x) (first_of_lem _ _ 0 (wires n) _) all_delays h
 
     -- the walk forward stops at x only if there is none
     pub after_none : (x : ℕ) → parts n ≤ after n.froms n.tos d a r x → (y : ℕ) → Tight (circuit_of n) (at d) (at a) (at r) x y → ⊥
     unfolding after
-    after_none x h = search_none (forward x) (first_of_lem _ _ 0 (wires n) _) all-delays h
+    after_none x h = search_none (forward x) (first_of_lem _ _ 0 (wires n) _) all_delays h
 
     -- backward: the lowest-numbered served fan-in of x for which both equalities hold
     pub before_is : (sv : List ℕ) (x : ℕ) → before n.froms n.tos sv d a r x < parts n → Lowest (λ y. Tight (circuit_of n) (at d) (at a) (at r) y x × (marked sv y ≡ true)) (before n.froms n.tos sv d a r x)
     unfolding before
-    before_is sv x h = search_is (backward sv x) (first_of_lem _ _ 0 (wires n) _) all-delays h
+    before_is sv x h = search_is (backward sv x) (first_of_lem _ _ 0 (wires n) _) all_delays h
 
     -- the walk backward stops at x only if there is none
     pub before_none : (sv : List ℕ) (x : ℕ) → parts n ≤ before n.froms n.tos sv d a r x → (y : ℕ) → Tight (circuit_of n) (at d) (at a) (at r) y x → marked sv y ≡ true → ⊥
     unfolding before
-    before_none sv x h y t m = search_none (backward sv x) (first_of_lem _ _ 0 (wires n) _) all-delays h y (t, m)
+    before_none sv x h y t m = search_none (backward sv x) (first_of_lem _ _ 0 (wires n) _) all_delays h y (t, m)

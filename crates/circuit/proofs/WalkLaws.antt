@@ -107,7 +107,7 @@ module _ (n : Netlist) (d a r : List ℤ) where
 
 -- ---- what the functions give
 
-module _ (n : Netlist) (sv : List ℕ) (d a r : List ℤ) (all-delays : length d ≡ parts n) (w : Wired n.froms n.tos (parts n)) (s : Sorted n.froms n.tos) (k : Ranked (net_of n)) where
+module _ (n : Netlist) (sv : List ℕ) (d a r : List ℤ) (all_delays : length d ≡ parts n) (w : Wired n.froms n.tos (parts n)) (s : Sorted n.froms n.tos) (k : Ranked (net_of n)) where
   abbrev go : ℕ → ℕ
   go = after n.froms n.tos d a r
 
@@ -123,9 +123,9 @@ module _ (n : Netlist) (sv : List ℕ) (d a r : List ℤ) (all-delays : length d
       by : (b : Bool) → ltb (go x) (parts n) ≡ b → (go x < parts n → k.top < q + k.rank (go x) → Forward n d a r (go x) (ahead go (parts n) q (go x))) → Forward n d a r x (cond b (go x ∷ ahead go (parts n) q (go x)) [])
       by true e f =
           let c = ltb-true (go x) (parts n) e in
-          let t = after_is n d a r all-delays w s x c in
+          let t = after_is n d a r all_delays w s x c in
           takes t (f c (omega (arith, k.rises t.holds.wire)))
-      by false e f = stops (after_none n d a r all-delays w s x (ltb-false (go x) (parts n) e))
+      by false e f = stops (after_none n d a r all_delays w s x (ltb-false (go x) (parts n) e))
 
   -- backward, fuel above the rank of x does
   behind_is : (q x : ℕ) (ys : List ℕ) → k.rank x < q → Backward n sv d a r (behind back (parts n) q x (x ∷ ys)) x ys
@@ -135,16 +135,16 @@ module _ (n : Netlist) (sv : List ℕ) (d a r : List ℤ) (all-delays : length d
     where
       by : (b : Bool) → ltb (back x) (parts n) ≡ b → (k.rank (back x) < q → Backward n sv d a r (behind back (parts n) q (back x) (back x ∷ x ∷ ys)) (back x) (x ∷ ys)) → Backward n sv d a r (cond b (behind back (parts n) q (back x) (back x ∷ x ∷ ys)) (x ∷ ys)) x ys
       by true e f =
-          let t = before_is n d a r all-delays w s sv x (ltb-true (back x) (parts n) e) in
+          let t = before_is n d a r all_delays w s sv x (ltb-true (back x) (parts n) e) in
           takes t (f (omega (arith, k.rises t.holds.0.wire)))
-      by false e f = stops refl (before_none n d a r all-delays w s sv x (ltb-false (back x) (parts n) e))
+      by false e f = stops refl (before_none n d a r all_delays w s sv x (ltb-false (back x) (parts n) e))
 
   module _ (fuel : k.top < parts n) (x : ℕ) (h : x < parts n) where
     -- the segment of a component x is what the two walks of 01 leave
     pub segment_walked : Walked n sv d a r x (segment_of n.froms n.tos sv d a r x)
     unfolding segment_of
     segment_walked =
-        rw all-delays (record {
+        rw all_delays (record {
           onward = ahead go (parts n) (parts n) x;
           forward = ahead_is (parts n) x h (omega arith);
           backward = behind_is (parts n) x (ahead go (parts n) (parts n) x) (omega (arith, k.below h));

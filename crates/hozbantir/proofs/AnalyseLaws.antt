@@ -1,5 +1,4 @@
--- What analyse's promise means: "The least path slack through a component equals its slack; that is to be proved, not assumed." (01, "Times and
--- slack")
+-- What analyse's promise means: what it writes for a component is the least slack of any path through it.
 use Rattle.std.specs.Prelude.{List, ℕ, ◌<◌, ℤ, pos, length, drop}
 use Rattle.std.proofs.Common.{arith}
 use Rattle.std.proofs.Math.ListN.{get_or-append}

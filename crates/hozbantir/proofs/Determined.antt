@@ -1,5 +1,5 @@
--- "For each input, refusals included, that statement determines the outcome and the later contents of the lent buffers. Prove that outcomes satisfying
--- it coincide" (01, "What the contracts settle"): for each call and each export, over the predicate that it ensures. There is no exception.
+-- Two outcomes of the same input that both satisfy a contract are one: the same answer, and the same bytes in the lent buffer, for a refusal too. Shown for
+-- each call and each export, over the predicate that it ensures. There is no exception.
 use Rattle.std.specs.Prelude.{◌≡◌, List, ℕ, ◌/◌, ◌%◌, ◌<◌, ℤ, length}
 use Rattle.std.proofs.Common.{arith}
 use Rattle.hozbantir.specs.declared.answers.Answer.{Answer}

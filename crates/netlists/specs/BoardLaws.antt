@@ -16,7 +16,7 @@ use Rattle.netlists.specs.declared.Verdict.{Verdict}
 use Rattle.netlists.specs.declared.Verdict.TheVariants.{Good, Broken, Tag, Size, Field, Wiring, Ends}
 use Rattle.netlists.specs.Judge.{Board, empty, with_component, key, with_connection, Turn, Go, Stop, on_component, on_connection, on_record, finish, on_found, step_of}
 use Rattle.netlists.specs.RuleLaws.{Wire, wiring_is, Fields, fields_is}
-use Rattle.records.specs.RecordLaws.{whole as record-whole, ended as record-ended, part_length}
+use Rattle.records.specs.RecordLaws.{whole as record_whole, ended as record_ended, part_length}
 
 -- ---- one element more
 
@@ -184,9 +184,9 @@ module _ (s : List ℕ) (b : Board) (fine : Fine b) where
     any tag = if_cases (Next b) _ _ _ (λ _. component) (λ _. if_cases (Next b) _ _ _ (λ _. connection) (λ _. place))
 
   found : (f : Found) → record_at s b.at ≡ f → Next b (on_found s b f)
-  found F.End e = finished (record-ended s b.at e)
+  found F.End e = finished (record_ended s b.at e)
   found F.Broken e = place
-  found (F.Record tag start len next) e = let w = record-whole s b.at e in let l = part_length s start len w.fits in any (part_of s start len) next (omega arith) tag
+  found (F.Record tag start len next) e = let w = record_whole s b.at e in let l = part_length s start len w.fits in any (part_of s start len) next (omega arith) tag
 
   pub stepped : Next b (step_of s b)
   unfolding step_of
