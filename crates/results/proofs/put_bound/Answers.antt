@@ -4,5 +4,4 @@ use Rattle.results.proofs.put_bound.Goals as goal
 
 pub returns : goal.returns
 returns c =
-    let p = c in
-    bound_put _ _ _ _ _ (search rules) (search rules) p.put_u8.ensures p.put_u16.ensures p.put_u16-2.ensures c.put_u32.ensures c.put_u32-2.ensures
+    bound_put _ _ _ _ _ (search rules) (search rules) c.put_u8.ensures c.put_u16.ensures c.put_u16-2.ensures c.put_u32.ensures c.put_u32-2.ensures
