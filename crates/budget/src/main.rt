@@ -1,83 +1,56 @@
 // Prints the budget of a netlist in both modes. Reads at most 65,536 bytes from standard input, and judges those.
 #![tactic(auto)]
 
-ghost use Rattle.std.specs.Prelude.{◌+◌, ◌≤◌, ◌<◌, length, take, IfOk};
+ghost use Rattle.std.specs.Prelude.{◌≡◌, ◌+◌, ◌≤◌, ◌<◌, length, take, IfOk};
 ghost use Rattle.std.specs.Io.{ReadsAtMost};
 ghost use Rattle.std.specs.Io.KnownBytes.{Consumes, IsAtEnd};
 
-use hozbantir::Answer;
 use std::io;
 use std::io::Read;
-
-fn space(rt: &impl Print) -> io::Result<()> {
-    print!(rt; " ")
-}
-
-fn end_line(rt: &impl Print) -> io::Result<()> {
-    println!(rt)
-}
-
-// The refusal's number and place.
-fn refused(rt: &impl Print, a: Answer) -> io::Result<()> {
-    print!(rt; "refused {}", hozbantir::number(a))?;
-    space(rt)?;
-    print!(rt; "{}", hozbantir::place(a))?;
-    end_line(rt)
-}
+use whole::BigEndian;
 
 // The mode, and what the summary says of it.
 fn head(rt: &impl Print, mode: u32, res: &[u8]) -> io::Result<()>
     requires { 10 ≤ length res.now }
 {
-    let share = whole::u32_at(res, 4);
-    let rounds = whole::u16_at(res, 8);
-    print!(rt; "mode {mode} share {share} rounds {rounds}")?;
-    end_line(rt)
+    let share = u32::at(res, 4);
+    let rounds = u16::at(res, 8);
+    println!(rt; "mode {mode} share {share} rounds {rounds}")
 }
 
-// The bound at this place: component, base delay, increment, and the two together.
-fn row(rt: &impl Print, res: &[u8], at: usize) -> io::Result<()>
-    requires { at + 13 ≤ length res.now }
+// A bound's record: component, base delay, increment, and the two together.
+fn row(rt: &impl Print, bound: &[u8]) -> io::Result<()>
+    requires { length bound.now ≡ 13 }
 {
-    let base = whole::u32_at(res, at + 5) as u64;
-    let increment = whole::u32_at(res, at + 9) as u64;
-    print!(rt; "{}", whole::u16_at(res, at + 3))?;
-    space(rt)?;
-    print!(rt; "{base}")?;
-    space(rt)?;
-    print!(rt; "{increment}")?;
-    space(rt)?;
-    print!(rt; "{}", base + increment)?;
-    end_line(rt)
+    let component = u16::at(bound, 3);
+    let base = u64::from(u32::at(bound, 5));
+    let increment = u64::from(u32::at(bound, 9));
+    println!(rt; "{component} {base} {increment} {}", base + increment)
 }
 
-fn rows(rt: &impl Print, res: &[u8]) -> io::Result<()>
-    requires { 10 ≤ length res.now }
-{
-    let mut at: usize = 10;
-    while at + 13 <= res.len() {
-        row(rt, res, at)?;
-        at += 13;
-    }
-    Ok(())
-}
-
+// The summary, and a line for each bound behind it.
 fn listing(rt: &impl Print, mode: u32, res: &[u8]) -> io::Result<()>
     requires { 10 ≤ length res.now }
 {
     head(rt, mode, res)?;
-    rows(rt, res)
+    for bound in res[10..].chunks_exact(13) {
+        row(rt, bound)?;
+    }
+    Ok(())
 }
 
 // A budget in a mode, or its refusal; whether there was one.
 fn show_mode(rt: &impl Print, mode: u32, netlist: &[u8], res: &mut [u8]) -> io::Result<bool> {
-    let a = hozbantir::budget(mode, netlist, res);
-    if hozbantir::number(a) != 0 {
-        refused(rt, a)?;
-        return Ok(false);
+    match hozbantir::budget(mode, netlist, res) {
+        Ok(bytes) => {
+            listing(rt, mode, &res[..bytes])?;
+            Ok(true)
+        }
+        Err(refusal) => {
+            println!(rt; "refused {} {}", refusal.number(), refusal.place())?;
+            Ok(false)
+        }
     }
-    listing(rt, mode, &res[..hozbantir::place(a)])?;
-    Ok(true)
 }
 
 // A netlist that is refused in one mode is refused alike in the other.
@@ -105,6 +78,7 @@ fn read_full<R: Read>(reader: &mut R, buf: &mut [u8]) -> io::Result<usize>
     Ok(done)
 }
 
+// Buffers of fixed length, as a user of the calls in C has them: no file that is taken is longer, and no result.
 fn main(rt: HostRuntime) -> io::Result<()> {
     let mut netlist = [0u8; 65536];
     let mut result = [0u8; 65536];

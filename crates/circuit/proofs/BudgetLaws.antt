@@ -1,9 +1,8 @@
 -- The budget of an accepted circuit in a mode: its share is the largest, its start is in time, and the outcome is LATE exactly if a path is
 -- late, and otherwise share, rounds and increments that meet demand 3.
-use Rattle.std.specs.Prelude.{◌≡◌, refl, ◌⊎◌, Bool, true, false, cond, List, ℕ, ◌^◌, ◌<◌, ◌≤◌, ltb, ℤ, pos, ◌+ℤ◌, length}
-use Rattle.std.proofs.Math.Path.{sym}
-use Rattle.std.proofs.Common.{◌∙◌, inl, inr, arith, ltb-true, ltb-false, eq-eqb, ne_eqb}
-use Rattle.std.proofs.Math.Decide.{ℕ_discrete}
+use Rattle.std.specs.Prelude.{◌≡◌, refl, ◌⊎◌, Bool, true, false, cond, List, ℕ, ◌^◌, ◌<◌, ◌≤◌, ℤ, pos, ◌+ℤ◌, length}
+use Rattle.std.proofs.Common.{sym, ◌∙◌, inl, inr, ⊎_elim, arith, eq-eqb, ne_eqb}
+use Rattle.std.proofs.lemmas.Bool.{cases_lt, cases_eq}
 use Rattle.std.specs.Int.Signed.{≤ℤ_refl}
 use Rattle.whole.specs.Whole.{whole, sum}
 use Rattle.whole.specs.Range.{Within, Bounded}
@@ -84,11 +83,7 @@ module _ {n : Netlist} (k : Clock n) {b : List ℤ} (g : Based n b) where
 
     -- it leaves the circuit in time
     share_fits : (m : ℕ) → InTime (circuit_of n) (lift (serves n) (share_in m n b) (at b))
-    share_fits m = by (ℕ_discrete m 0)
-      where
-        by : Dec (m ≡ 0) → InTime (circuit_of n) (lift (serves n) (share_in m n b) (at b))
-        by (yes e) = rw (plain_share n b e) nothing_more
-        by (no e) = rw (even_share n b e) share_is.fits
+    share_fits m = ⊎_elim (λ e. rw (plain_share n b e) nothing_more) (λ e. rw (even_share n b e) share_is.fits) (cases_eq m 0)
 
     -- every mode starts in time, and with its share on each served component
     pub start_is : (m : ℕ) → Start n b (share_in m n b) (start_in m n b)
@@ -123,8 +118,4 @@ module _ {n : Netlist} (k : Clock n) {b : List ℤ} (g : Based n b) where
 
   -- one of the two holds
   pub late_or_in_time : (lowest_late n b < parts n) ⊎ InTime (circuit_of n) (at b)
-  late_or_in_time = by (ltb (lowest_late n b) (parts n)) refl
-    where
-      by : (u : Bool) → ltb (lowest_late n b) (parts n) ≡ u → (lowest_late n b < parts n) ⊎ InTime (circuit_of n) (at b)
-      by true e = inl (ltb-true (lowest_late n b) (parts n) e)
-      by false e = inr (late_none_is n b (k.timed b (based_bounded g)) (omega (arith, ltb-false (lowest_late n b) (parts n) e, late_le n b)))
+  late_or_in_time = ⊎_elim inl (λ l. inr (late_none_is n b (k.timed b (based_bounded g)) (omega (arith, late_le n b)))) (cases_lt (lowest_late n b) (parts n))

@@ -1,14 +1,10 @@
 -- The choice of a round: among the components that are served and have slack above zero, one of least slack, and of several such the one with the lowest
 -- number. `choice_of` gives that component, and the component count exactly where there is none.
-use Rattle.std.specs.Prelude.{◌≡◌, Bool, true, false, cond, ◌&&◌, ◌||◌, List, eqb, ℤ, pos, ◌<ℤ◌, ◌≤ℤ◌, length}
-use Rattle.std.proofs.Math.Path.{refl}
-use Rattle.std.proofs.Common.{sym, arith, ne_eqb}
-use Prim.Native.Nat.{ℕ, zero, suc, ◌<◌, ◌≤◌}
-use Rattle.std.proofs.Math.Decide.{ℕ_discrete}
-use Rattle.std.proofs.lemmas.Bool.{eqb-false}
+use Rattle.std.specs.Prelude.{◌≡◌, Bool, true, false, cond, ◌&&◌, ◌||◌, List, eqb, ℤ, pos, ◌<ℤ◌, ◌≤ℤ◌, length, refl, ℕ, zero, suc, ◌<◌, ◌≤◌}
+use Rattle.std.proofs.Common.{arith, below_more, ne_eqb}
+use Rattle.std.proofs.lemmas.Bool.{eqb-false, and_parts, or_parts}
 use Rattle.std.specs.Int.Signed.{lt_z}
 use Rattle.whole.specs.Whole.{up, down, whole, lt_true, lt_false, lt_yes}
-use Rattle.circuit.proofs.ListLaws.{clash}
 use Rattle.circuit.specs.Netlist.{marked}
 use Rattle.circuit.specs.Times.{slack_at}
 use Rattle.circuit.specs.Rounds.{beats, choice_of}
@@ -29,24 +25,7 @@ data Choice (sv : List ℕ) (a r : List ℤ) (m x : ℕ) : Type 0 where
 
 -- what holds below m, and at m, holds below m + 1
 one_more : (P : ℕ → Type 0) (m : ℕ) → ((y : ℕ) → y < m → P y) → P m → (y : ℕ) → y < suc m → P y
-one_more P m f h y l = by (ℕ_discrete y m)
-  where
-    by : Dec (y ≡ m) → P y
-    by (yes e) = rw e h
-    by (no e) = f y (omega arith)
-
--- what the test of the choice says where it passes, and where it fails
-passes : (s p e l : Bool) → s && (p && (e || l)) ≡ true → (s ≡ true) × (p ≡ true) × (e ≡ false → l ≡ true)
-passes true true true l h = (refl, refl, λ k. absurd (clash k))
-passes true true false l h = (refl, refl, λ k. h)
-passes true false e l h = absurd (clash (sym h))
-passes false p e l h = absurd (clash (sym h))
-
-fails : (s p e l : Bool) → s && (p && (e || l)) ≡ false → s ≡ true → p ≡ true → (e ≡ false) × (l ≡ false)
-fails true true true l h s p = absurd (clash h)
-fails true true false l h s p = (refl, h)
-fails true false e l h s p = absurd (clash (sym p))
-fails false p e l h s q = absurd (clash (sym s))
+one_more P m f h y l = below_more P m f h y (omega arith)
 
 module _ (sv : List ℕ) (a r : List ℤ) where
   abbrev sl : ℕ → ℤ
@@ -78,13 +57,14 @@ module _ (sv : List ℕ) (a r : List ℤ) where
   beats_yes : (m b : ℕ) → beats sv a r m b ≡ true → (marked sv m ≡ true) × (pos 0 <ℤ sl m) × ((b ≡ length sv → ⊥) → sl m <ℤ sl b)
   unfolding beats
   beats_yes m b h =
-      let (s, p, u) = passes (marked sv m) (lt_z (pos 0) (sl m)) (eqb b (length sv)) (lt_z (sl m) (sl b)) h in
-      (s, omega (whole, lt_true), λ e. omega (whole, lt_true (sl m) (sl b) (u (ne_eqb b (length sv) e))))
+      let (s, k) = and_parts (marked sv m) (lt_z (pos 0) (sl m) && (eqb b (length sv) || lt_z (sl m) (sl b))) h in
+      let (p, o) = and_parts (lt_z (pos 0) (sl m)) (eqb b (length sv) || lt_z (sl m) (sl b)) k in
+      (s, omega (whole, lt_true), λ e. omega (whole, lt_true (sl m) (sl b) (rw (ne_eqb b (length sv) e) at o)))
 
   beats_no : (m b : ℕ) → beats sv a r m b ≡ false → marked sv m ≡ true → pos 0 <ℤ sl m → (b ≡ length sv → ⊥) × (sl b ≤ℤ sl m)
   unfolding beats
   beats_no m b h s p =
-      let (e, l) = fails (marked sv m) (lt_z (pos 0) (sl m)) (eqb b (length sv)) (lt_z (sl m) (sl b)) h s (lt_yes (pos 0) (sl m) p) in
+      let (e, l) = or_parts (eqb b (length sv)) (lt_z (sl m) (sl b)) (rw (s, lt_yes (pos 0) (sl m) p) at h) in
       (eqb-false b (length sv) e, omega (whole, lt_false))
 
   -- one number more

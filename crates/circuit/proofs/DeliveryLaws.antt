@@ -1,9 +1,10 @@
 -- What a delivery gives: portions that come to the whole, to members only, each what is still to be given divided by those still to serve and
 -- rounded down. And that the function `deliver` gives just these.
-use Rattle.std.specs.Prelude.{◌≡◌, refl, cond, ℕ, suc, ◌+◌, ◌-◌, ◌*◌, ◌/◌, ◌<◌, ◌≤◌, eqb, ℤ, pos, ◌+ℤ◌, length, set}
-use Rattle.std.proofs.Common.{sym, ap, ◌∙◌, arith, div-le_self, div-mul-le_self, eq-eqb, ne_eqb, length-set, get_or-set_same, get_or-set_other}
-use mathlib.Core.List.{List, [], ◌∷◌, Memᴰ}
-use Rattle.std.proofs.Math.Decide.{ℕ_discrete}
+use Rattle.std.specs.Prelude.{◌≡◌, refl, ℕ, suc, ◌+◌, ◌-◌, ◌*◌, ◌/◌, ◌<◌, ◌≤◌, ℤ, pos, ◌+ℤ◌, length, set, List, [], ◌∷◌}
+use Rattle.std.proofs.Common.{sym, ap, ◌∙◌, ⊎_elim, arith, div-le_self, div-mul-le_self, eq-eqb, ne_eqb, length-set, get_or-set_same, get_or-set_other}
+use mathlib.Core.List.{Memᴰ}
+use Rattle.std.proofs.Math.Path.{fun_ext}
+use Rattle.std.proofs.lemmas.Bool.{cases_eq}
 use Rattle.std.proofs.Math.Nat.{lt-div-mul-add}
 use Rattle.whole.specs.Whole.{whole, sum}
 use Rattle.circuit.specs.Circuit.{gift}
@@ -44,16 +45,10 @@ length-deliver s xs d = length_by_list xs s d
 
 set_gift : (d : List ℤ) (x g : ℕ) → x < length d → (y : ℕ) → at (set d x (at d x +ℤ pos g)) y ≡ at d y +ℤ pos (gift x g y)
 unfolding gift
-set_gift d x g h y = by (ℕ_discrete x y)
-  where
-    by : Dec (x ≡ y) → at (set d x (at d x +ℤ pos g)) y ≡ at d y +ℤ pos (cond (eqb x y) g 0)
-    by (yes e) = rw (← e, get_or-set_same d x (at d x +ℤ pos g) (pos 0) h, eq-eqb x x refl)
-    by (no e) = rw (get_or-set_other d x y (at d x +ℤ pos g) (pos 0) (λ q. e (sym q)), ne_eqb x y e) (omega (whole, sum (at d y) (pos 0)))
-
-give_same : (l : List (ℕ × ℕ)) (f g : ℕ → ℤ) → ((y : ℕ) → f y ≡ g y) → (y : ℕ) → give l f y ≡ give l g y
-unfolding give
-give_same [] f g h y = h y
-give_same (p ∷ l) f g h y = give_same l _ _ (λ z. ap (λ (v : ℤ). v +ℤ pos (gift p.0 p.1 z)) (h z)) y
+set_gift d x g h y = ⊎_elim
+    (λ e. rw (← e, get_or-set_same d x _ (pos 0) h, eq-eqb x x refl))
+    (λ e. rw (get_or-set_other d x y _ (pos 0) (λ q. e (sym q)), ne_eqb x y e) (omega (whole, sum (at d y) (pos 0))))
+    (cases_eq x y)
 
 -- the delays after a delivery are the delays after its gifts
 pub deliver_is : (s : ℕ) (xs : List ℕ) (d : List ℤ) → ((x : ℕ) → Memᴰ x xs → x < length d) → (y : ℕ) → at (deliver s xs d) y ≡ give (portions s xs) (at d) y
@@ -62,7 +57,7 @@ deliver_is s [] d h y = refl
 deliver_is s (x ∷ xs) d h y =
     let g = s / suc (length xs) in
     deliver_is (s - g) xs (set d x (at d x +ℤ pos g)) (λ z m. rw (length-set d x (at d x +ℤ pos g)) (h z (Memᴰ.tail m))) y
-    ∙ give_same (portions (s - g) xs) _ _ (set_gift d x g (h x (Memᴰ.head refl))) y
+    ∙ ap (λ (f : ℕ → ℤ). give (portions (s - g) xs) f y) (fun_ext (set_gift d x g (h x (Memᴰ.head refl))))
 
 -- who receives nothing keeps its delay
 pub give_none : (l : List (ℕ × ℕ)) (d : ℕ → ℤ) (y : ℕ) → (Receives y l → ⊥) → give l d y ≡ d y

@@ -1,10 +1,10 @@
 -- What the rounds leave, from any delays that are in time: and demand 3, from a start that has at least base plus share on each served
 -- component. The modes differ only in the start.
-use Rattle.std.specs.Prelude.{◌≡◌, Bool, true, false, List, ltb, ℤ, pos, ◌+ℤ◌, ◌-ℤ◌, ◌≤ℤ◌, length, get_or}
-use Rattle.std.proofs.Math.Path.{refl, fun_ext}
-use Prim.Native.Nat.{ℕ, ◌≤◌}
-use Rattle.std.proofs.Common.{arith, ltb-true, ltb-false}
-use Rattle.std.proofs.Math.ListN.{get_or-eq_default}
+use Rattle.std.specs.Prelude.{◌≡◌, ◌⊎◌, true, List, ℤ, pos, ◌+ℤ◌, ◌-ℤ◌, ◌≤ℤ◌, length, get_or, ℕ, ◌<◌, ◌≤◌}
+use Rattle.std.proofs.Math.Path.{fun_ext}
+use Rattle.std.proofs.Common.{inl, inr, arith}
+use Rattle.std.proofs.lemmas.Bool.{cases_lt}
+use Rattle.std.proofs.lemmas.List.{get_or_past}
 use Rattle.whole.specs.Whole.{whole, up, sum, diff, apart}
 use Rattle.circuit.specs.Circuit.{Share}
 use Rattle.circuit.specs.Lists.{at, tabulate}
@@ -78,20 +78,19 @@ module _ {n : Netlist} (k : Clock n) where
     -- base plus increment is the final delay
     pub bounds_are : (x : ℕ) → bounds (at b) inc x ≡ at f x
     unfolding increments
-    bounds_are x = by (ltb x (parts n)) refl
+    bounds_are x = by (cases_lt x (parts n))
       where
         rise : ℕ → ℕ
         rise y = up (at f y -ℤ at b y)
 
-        by : (u : Bool) → ltb x (parts n) ≡ u → (at b x +ℤ pos (get_or (tabulate rise (parts n)) x 0)) ≡ at f x
-        by true e =
-            let h = get_or-tabulate rise (parts n) x 0 (ltb-true x (parts n) e) in
+        by : (x < parts n) ⊎ (parts n ≤ x) → (at b x +ℤ pos (get_or (tabulate rise (parts n)) x 0)) ≡ at f x
+        by (inl l) =
+            let h = get_or-tabulate rise (parts n) x 0 l in
             rw h (omega (whole, final_more x, diff (at f x) (at b x), apart (at f x -ℤ at b x), sum (at b x) (pos (rise x))))
-        by false e =
-            let past = ltb-false x (parts n) e in
-            let none = get_or-eq_default (tabulate rise (parts n)) 0 {n = x} (rw (length-tabulate rise (parts n)) past) in
-            let no_base = get_or-eq_default b (pos 0) {n = x} (rw g.all past) in
-            let no_delay = get_or-eq_default f (pos 0) {n = x} (rw done.safe.all past) in
+        by (inr past) =
+            let none = get_or_past (tabulate rise (parts n)) x 0 (rw (length-tabulate rise (parts n)) past) in
+            let no_base = get_or_past b x (pos 0) (rw g.all past) in
+            let no_delay = get_or_past f x (pos 0) (rw done.safe.all past) in
             rw (none, no_base, no_delay)
 
     -- every path stays in time, and one picosecond more on any served component makes some path late

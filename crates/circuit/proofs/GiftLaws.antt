@@ -1,10 +1,8 @@
 -- What gifts of delay do to a way, and Lemma 3 and Corollary 1 of 001.
-use Rattle.std.specs.Prelude.{◌≡◌, refl, ◌⊎◌, ◌↔◌, ℕ, ◌+◌, ◌≤◌, pos, ◌+ℤ◌, ◌-ℤ◌, ◌≤ℤ◌}
-use Rattle.std.proofs.Common.{ap, arith}
-use Rattle.std.proofs.Math.Logic.{inl, inr, ⊎_elim}
+use Rattle.std.specs.Prelude.{◌≡◌, refl, ◌⊎◌, ◌↔◌, ℕ, ◌+◌, ◌≤◌, pos, ◌+ℤ◌, ◌-ℤ◌, ◌≤ℤ◌, List, [], ◌∷◌, map, ℤ}
+use Rattle.std.proofs.Common.{ap, arith, inl, inr, ⊎_elim}
 use mathlib.Core.List.Memᴰ
-use mathlib.Core.List.{List, [], ◌∷◌, map, Memᴰ}
-use Rattle.std.proofs.Math.IntN.{ℤ}
+use mathlib.Core.List.{Memᴰ}
 use Rattle.std.specs.Int.Signed.{≤ℤ_refl}
 use Rattle.whole.specs.Whole.{whole, sum, diff}
 use Rattle.circuit.specs.Circuit.{Net, Circuit, into, To, start, then, reach, On, Path, path_slack, InTime, slack, Timed, Ranked, Served, gift, add}

@@ -1,33 +1,27 @@
 -- In time, and the lowest output that is late: what the tests on arrivals and slacks say of the paths.
-use Rattle.std.specs.Prelude.{◌≡◌, Bool, false, ◌&&◌, List, ℕ, ◌<◌, ◌≤◌, eqb, ℤ, pos, ◌≤ℤ◌, ◌<ℤ◌}
-use Rattle.std.proofs.Math.Bool.{true}
-use Rattle.std.proofs.Common.{arith}
-use Rattle.std.proofs.Math.Decide.{ℕ_discrete}
-use borrow.Author.Tests.{eqb-true, eq-eqb}
+use Rattle.std.specs.Prelude.{◌≡◌, Bool, false, ◌&&◌, List, ℕ, ◌<◌, ◌≤◌, eqb, ℤ, pos, ◌≤ℤ◌, ◌<ℤ◌, true}
+use Rattle.std.proofs.Common.{arith, eqb-true, eq-eqb}
+use Rattle.std.proofs.lemmas.Bool.{and_parts}
 use Rattle.std.specs.Int.Signed.{lt_z}
 use Rattle.whole.specs.Whole.{whole, diff, lt_true, lt_false}
 use Rattle.circuit.specs.Circuit.{Path, reach, On, InTime, Late, Timed, Ranked}
 use Rattle.circuit.specs.Lists.{at, lowest}
-use Rattle.circuit.proofs.ListLaws.{both, both_no, lowest_le, lowest_is, lowest_first}
+use Rattle.circuit.proofs.ListLaws.{lowest_le, lowest_is, lowest_first}
 use Rattle.circuit.specs.Netlist.{Netlist, parts, kind, net_of, circuit_of}
 use Rattle.circuit.specs.Times.{arrivals, requireds, slack_at, overdue, in_time, late, lowest_late}
 use Rattle.circuit.proofs.SlackLaws.{reach_le, last_way, lemma2, ends→in_time, in_time→slack}
 
 -- where none passes, the lowest that passes is the count
 lowest_none : (f : ℕ → Bool) (n : ℕ) → ((x : ℕ) → x < n → f x ≡ true → ⊥) → lowest f n ≡ n
-lowest_none f n h = by (ℕ_discrete (lowest f n) n)
-  where
-    by : Dec (lowest f n ≡ n) → lowest f n ≡ n
-    by (yes e) = e
-    by (no e) = let b : lowest f n < n = omega (arith, lowest_le f n) in absurd (h (lowest f n) b (lowest_is f n b))
+lowest_none f n h = let none : lowest f n < n → ⊥ = λ b. h (lowest f n) b (lowest_is f n b) in omega (arith, lowest_le f n)
 
 -- what passes the test for an output and two integers is an output, and the first is less
 passes : (k : ℕ) (u v : ℤ) → eqb k 2 && lt_z u v ≡ true → (k ≡ 2) × (u <ℤ v)
-passes k u v h = let (a, b) = both (eqb k 2) (lt_z u v) h in (eqb-true k 2 a, omega (whole, lt_true u v b))
+passes k u v h = let (a, b) = and_parts (eqb k 2) (lt_z u v) h in (eqb-true k 2 a, omega (whole, lt_true u v b))
 
 -- an output that does not pass: the first is no less
 fails : (k : ℕ) (u v : ℤ) → eqb k 2 && lt_z u v ≡ false → k ≡ 2 → v ≤ℤ u
-fails k u v h e = omega (whole, lt_false u v (both_no (eqb k 2) (lt_z u v) (eq-eqb k 2 e) h))
+fails k u v h e = omega (whole, lt_false u v (rw (eq-eqb k 2 e) at h))
 
 -- x is the lowest output that is late: its slack is negative, that of no lower output is, and a path through it is late
 pub record FirstLate (n : Netlist) (d : List ℤ) (x : ℕ) : Type 0 where

@@ -24,6 +24,7 @@ pub mod DeliveryLaws
 pub mod RunLaws
 -- What a budget says.
 pub mod FinalLaws
+pub mod BelowLaws
 pub mod BudgetLaws
 pub mod OutcomeLaws
 pub mod TableLaws

@@ -1,23 +1,20 @@
 -- Laws of the numbers from s on, of tabulated lists, of the first that passes, of counts, and of fronts.
-use Rattle.std.specs.Prelude.{◌≡◌, refl, ◌⊎◌, Bool, ◌&&◌, length, get_or, take, replicate}
-use Rattle.std.proofs.Common.{sym, ◌∙◌, inl, inr, length-append, length-take-le}
-use Rattle.std.proofs.Math.Bool.{true, false, cond}
-use mathlib.Core.List.{[], ◌∷◌, ◌++◌, Memᴰ}
-use Prim.Native.Nat.{ℕ, zero, suc, ◌+◌, ◌<◌, ◌≤◌}
-use native.Mathlib.Omega.{arith}
+use Rattle.std.specs.Prelude.{◌≡◌, refl, ◌⊎◌, Bool, true, false, cond, ◌&&◌, [], ◌∷◌, ◌++◌, ℕ, zero, suc, ◌+◌, ◌<◌, ◌≤◌, length, get_or, take, replicate}
+use Rattle.std.proofs.Common.{sym, ◌∙◌, inl, inr, ⊎_elim, arith, below_more, eq-or-lt_of_le, length-append, length-take-le}
 use Rattle.std.proofs.Math.Decide.{ℕ_discrete}
-use Rattle.std.proofs.lemmas.List.{length-replicate, get_or_at}
-use Rattle.std.proofs.Math.ListN.{get_or-append}
+use Rattle.std.proofs.lemmas.Bool.{true≢false, and_parts, cond_both, false_from_ne_true}
+use Rattle.std.proofs.lemmas.List.{length-replicate, get_or_append_left, get_or_push}
+use mathlib.Core.List.{Memᴰ}
 use Rattle.circuit.specs.Lists.{up_from, tabulate, first_of, lowest, count}
 
 -- ---- tests
 
+-- std's laws, by the names that the files of other crates have for them
 pub clash : true ≡ false → ⊥
-clash e = let z : ◌≡◌ {A = ℕ} 0 1 = cc in omega arith
+clash = true≢false
 
 pub both : (a b : Bool) → a && b ≡ true → (a ≡ true) × (b ≡ true)
-both true b h = (refl, h)
-both false b h = absurd (clash (sym h))
+both = and_parts
 
 pub both_no : (a b : Bool) → a ≡ true → a && b ≡ false → b ≡ false
 both_no true b h k = k
@@ -39,11 +36,7 @@ from_at s (suc n) (suc j) h = from_at (suc s) n j (omega arith) ∙ omega arith
 pub from_in : (s n x : ℕ) → s ≤ x → x < s + n → Memᴰ x (up_from s n)
 unfolding up_from
 from_in s zero x h g = absurd (omega arith)
-from_in s (suc n) x h g = by (ℕ_discrete x s) (λ k. from_in (suc s) n x k (omega arith))
-  where
-    by : Dec (x ≡ s) → (s < x → Memᴰ x (up_from (suc s) n)) → Memᴰ x (s ∷ up_from (suc s) n)
-    by (yes e) f = Memᴰ.head e
-    by (no e) f = Memᴰ.tail (f (omega arith))
+from_in s (suc n) x h g = ⊎_elim (λ e. Memᴰ.head (sym e)) (λ l. Memᴰ.tail (from_in (suc s) n x l (omega arith))) (eq-or-lt_of_le h)
 
 pub from_out : (s n : ℕ) {x : ℕ} → Memᴰ x (up_from s n) → (s ≤ x) × (x < s + n)
 unfolding up_from
@@ -61,11 +54,10 @@ length-tabulate f (suc n) = rw (length-append (tabulate f n) (f n ∷ []), lengt
 pub get_or-tabulate : {A : Type 0} (f : ℕ → A) (n k : ℕ) (d : A) → k < n → get_or (tabulate f n) k d ≡ f k
 unfolding tabulate
 get_or-tabulate f zero k d h = absurd (omega arith)
-get_or-tabulate f (suc n) k d h = by (ℕ_discrete k n) (get_or-tabulate f n k d)
-  where
-    by : Dec (k ≡ n) → (k < n → get_or (tabulate f n) k d ≡ f k) → get_or (tabulate f n ++ (f n ∷ [])) k d ≡ f k
-    by (yes e) r = rw e (get_or_at (tabulate f n) (f n) [] d n (length-tabulate f n))
-    by (no e) r = let b : k < n = omega arith in get_or-append (tabulate f n) (f n ∷ []) d k (rw (length-tabulate f n) b) ∙ r b
+get_or-tabulate f (suc n) k d h = below_more (λ j. get_or (tabulate f n ++ (f n ∷ [])) j d ≡ f j) n
+    (λ j b. get_or_append_left (tabulate f n) (f n ∷ []) d j (rw (length-tabulate f n) b) ∙ get_or-tabulate f n j d b)
+    (get_or_push (tabulate f n) (f n) d n (length-tabulate f n))
+    k (omega arith)
 
 -- ---- the first that passes
 
@@ -75,21 +67,18 @@ pub data First (f : ℕ → Bool) (g : ℕ → ℕ) (s t e r : ℕ) : Type 0 whe
   missing : r ≡ e → ((i : ℕ) → s ≤ i → i < t → f i ≡ false) → First f g s t e r
 
 at_or_after : (f : ℕ → Bool) {s i : ℕ} → f s ≡ false → s ≤ i → (suc s ≤ i → f i ≡ false) → f i ≡ false
-at_or_after f {s} {i} h k l = by (ℕ_discrete s i)
-  where
-    by : Dec (s ≡ i) → f i ≡ false
-    by (yes e) = rw e at h
-    by (no e) = l (omega arith)
+at_or_after f h k l = ⊎_elim (λ e. rw e at h) l (eq-or-lt_of_le k)
 
 pub first_of_lem : (f : ℕ → Bool) (g : ℕ → ℕ) (s n e : ℕ) → First f g s (s + n) e (first_of f g (up_from s n) e)
 unfolding first_of up_from
 first_of_lem f g s zero e = missing refl (λ i h k. absurd (omega arith))
-first_of_lem f g s (suc n) e = by (f s) refl (first_of_lem f g (suc s) n e)
+first_of_lem f g s (suc n) e = cond_both (f s) (g s) (first_of f g (up_from (suc s) n) e) (First f g s (s + suc n) e)
+    (λ h. found s (omega arith) (omega arith) h refl (λ i k l. absurd (omega arith)))
+    (λ h. later h (first_of_lem f g (suc s) n e))
   where
-    by : (b : Bool) → f s ≡ b → First f g (suc s) (suc s + n) e (first_of f g (up_from (suc s) n) e) → First f g s (s + suc n) e (cond b (g s) (first_of f g (up_from (suc s) n) e))
-    by true h r = found s (omega arith) (omega arith) h refl (λ i k l. absurd (omega arith))
-    by false h (found j p q t u v) = found j (omega arith) (omega arith) t u (λ i k l. at_or_after f h k (λ m. v i m l))
-    by false h (missing u v) = missing u (λ i k l. at_or_after f h k (λ m. v i m (omega arith)))
+    later : f s ≡ false → {r : ℕ} → First f g (suc s) (suc s + n) e r → First f g s (s + suc n) e r
+    later h (found j p q t u v) = found j (omega arith) (omega arith) t u (λ i k l. at_or_after f h k (λ m. v i m l))
+    later h (missing u v) = missing u (λ i k l. at_or_after f h k (λ m. v i m (omega arith)))
 
 module _ (f : ℕ → Bool) (n : ℕ) where
   pub lowest_le : lowest f n ≤ n
@@ -127,10 +116,7 @@ some_or_none f n = by (first_of_lem f (λ x. x) 0 n n)
 -- ---- counts
 
 one_mono : (a b : Bool) → (a ≡ true → b ≡ true) → cond a 1 0 ≤ cond b 1 0
-one_mono true true h = omega arith
-one_mono true false h = absurd (clash (sym (h refl)))
-one_mono false true h = omega arith
-one_mono false false h = omega arith
+one_mono a b h = cond_both a 1 0 (λ v. v ≤ cond b 1 0) (λ e. rw (h e) (omega arith)) (λ e. omega arith)
 
 pub count_le : (f : ℕ → Bool) (n : ℕ) → count f n ≤ n
 unfolding count
@@ -159,12 +145,10 @@ module _ (f g : ℕ → Bool) where
 pub count_none : (f : ℕ → Bool) (n : ℕ) → count f n ≤ 0 → (x : ℕ) → x < n → f x ≡ false
 unfolding count
 count_none f zero h x k = absurd (omega arith)
-count_none f (suc n) h x k = by (f n) refl (ℕ_discrete x n) (λ g l. count_none f n g x l) h
-  where
-    by : (b : Bool) → f n ≡ b → Dec (x ≡ n) → (count f n ≤ 0 → x < n → f x ≡ false) → cond b 1 0 + count f n ≤ 0 → f x ≡ false
-    by true e q r g = absurd (omega arith)
-    by false e (yes q) r g = rw q e
-    by false e (no q) r g = r (omega arith) (omega arith)
+count_none f (suc n) h x k = below_more (λ y. f y ≡ false) n
+    (count_none f n (omega arith))
+    (false_from_ne_true (f n) (λ e. let g = rw e at h in omega arith))
+    x (omega arith)
 
 -- the front of a new array
 pub length-first : {A : Type 0} (n m : ℕ) (x : A) → n ≤ m → length (take n (replicate m x)) ≡ n

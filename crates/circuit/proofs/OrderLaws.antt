@@ -1,8 +1,9 @@
 -- A rank from an order of the connections: so no law rests on how components are numbered.
-use Rattle.std.specs.Prelude.{◌≡◌, refl, Bool, true, false, cond, ℕ, suc, ◌-◌, ◌<◌, ◌≤◌, eqb, ltb, length}
-use mathlib.Core.List.{List, [], ◌∷◌, Memᴰ}
+use Rattle.std.specs.Prelude.{◌≡◌, refl, Bool, true, false, cond, ℕ, suc, ◌-◌, ◌<◌, ◌≤◌, eqb, ltb, length, List, [], ◌∷◌}
+use mathlib.Core.List.{Memᴰ}
 use Rattle.std.proofs.Common.{arith, ltb-true, lt-ltb, le-ltb, eq-eqb, ne_eqb}
 use Rattle.std.proofs.Math.Decide.{ℕ_discrete}
+use Rattle.std.proofs.lemmas.Bool.{cond_both}
 use Rattle.circuit.specs.Circuit.{Ranked}
 use Rattle.circuit.specs.Lists.{count}
 use Rattle.circuit.proofs.ListLaws.{count_le, count_less}
@@ -20,11 +21,7 @@ height src (j ∷ w) x = cond (eqb (src j) x) (suc (length w)) (height src w x)
 height_le : (src : ℕ → ℕ) (w : List ℕ) (x : ℕ) → height src w x ≤ length w
 unfolding height
 height_le src [] x = omega arith
-height_le src (j ∷ w) x = by (eqb (src j) x) (height_le src w x)
-  where
-    by : (b : Bool) → height src w x ≤ length w → cond b (suc (length w)) (height src w x) ≤ suc (length w)
-    by true h = omega arith
-    by false h = omega arith
+height_le src (j ∷ w) x = cond_both (eqb (src j) x) (suc (length w)) (height src w x) (λ h. h ≤ suc (length w)) (λ e. omega arith) (λ e. omega (arith, height_le src w x))
 
 -- along each connection fewer are left
 height_falls : {src tgt : ℕ → ℕ} (w : List ℕ) → Ordered src tgt w → {j : ℕ} → Memᴰ j w → height src w (tgt j) < height src w (src j)

@@ -1,6 +1,7 @@
 -- What the outcome of a budget says, whatever the mode: the theorems that the calls' promises stand on.
 use Rattle.std.specs.Prelude.{◌≡◌, ◌⊎◌, List, ℕ, ◌≤◌, ◌<◌, ℤ, length, get_or}
-use Rattle.std.proofs.Common.{◌∙◌, inl, inr, arith}
+use Rattle.std.proofs.Common.{◌∙◌, inl, inr}
+use Rattle.std.proofs.lemmas.Bool.{true≢false}
 use Rattle.whole.specs.Whole.{whole}
 use Rattle.circuit.specs.Circuit.{Path, InTime, Late, Share}
 use Rattle.circuit.specs.Lists.{at}
@@ -34,7 +35,7 @@ module _ {n : Netlist} (q : Accepted n) {b : List ℤ} (g : Based n b) (m : ℕ)
           let (u, v) = budget_late k g m h in
           let same : lowest_late n b ≡ x = cc in
           rw same at v
-      by (inr safe) = let u = budget_is k g safe m in absurd (let z : ◌≡◌ {A = ℕ} 0 1 = cc in omega arith)
+      by (inr safe) = let u = budget_is k g safe m in absurd (true≢false cc)
 
   -- where a path is late, the outcome is LATE
   pub late_path : (p : Path (net_of n)) → Late (circuit_of n) (at b) p → budget_of m n b ≡ LateAt (lowest_late n b)
@@ -53,7 +54,7 @@ module _ {n : Netlist} (q : Accepted n) {b : List ℤ} (g : Based n b) (m : ℕ)
   budget_says {t} {r} {l} e = by (late_or_in_time k g)
     where
       by : (lowest_late n b < parts n) ⊎ InTime (circuit_of n) (at b) → OfMode m n b t r l
-      by (inl h) = let u = (budget_late k g m h).0 in absurd (let z : ◌≡◌ {A = ℕ} 0 1 = cc in omega arith)
+      by (inl h) = let u = (budget_late k g m h).0 in absurd (true≢false cc)
       by (inr safe) = let u = budget_is k g safe m in record { in_time = safe; share = cc; rounds = cc; increments = cc }
 
   module _ {t r : ℕ} {l : List ℕ} (s : OfMode m n b t r l) where

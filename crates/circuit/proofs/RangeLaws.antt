@@ -1,6 +1,6 @@
 -- How far the numbers go. Here, and nowhere above, delays are not negative.
 use Rattle.std.specs.Prelude.{ℕ, ◌*◌, ℤ, pos, ◌+ℤ◌, ◌-ℤ◌, ◌≤ℤ◌}
-use Rattle.std.proofs.Math.Nat.{mul-le-mul_left}
+use Rattle.std.proofs.Common.{mul-le-mul_left}
 use Rattle.std.specs.Int.Signed.{≤ℤ_refl}
 use Rattle.whole.specs.Whole.{whole, sum, diff}
 use Rattle.circuit.specs.Circuit.{Net, Circuit, begin, into, To, start, then, From, stop, on, reach, due, InTime, Ranked}

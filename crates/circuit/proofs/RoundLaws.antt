@@ -1,7 +1,7 @@
 -- More delay leaves no component more slack; a round that spends one slack on a segment leaves the circuit in time, and the segment with none.
-use Rattle.std.specs.Prelude.{◌≡◌, refl, ℕ, ℤ, pos, ◌≤ℤ◌, ◌<ℤ◌}
+use Rattle.std.specs.Prelude.{◌≡◌, refl, ℕ, ℤ, pos, ◌≤ℤ◌, ◌<ℤ◌, List, ◌∷◌}
 use Rattle.std.proofs.Math.Path.{fun_ext}
-use mathlib.Core.List.{List, ◌∷◌, Memᴰ}
+use mathlib.Core.List.{Memᴰ}
 use Rattle.std.specs.Int.Signed.{≤ℤ_refl}
 use Rattle.whole.specs.Whole.{whole, diff}
 use Rattle.circuit.specs.Circuit.{Circuit, Timed, Ranked, InTime, Served, Segment, slack}

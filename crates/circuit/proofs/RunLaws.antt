@@ -1,16 +1,14 @@
 -- What the functions do in a round is a round; it leaves the circuit in time and fewer served components with positive slack; so every run
 -- ends, and the functions find it.
-use Rattle.std.specs.Prelude.{◌≡◌, Bool, cond, ◌&&◌, List, ◌∷◌, ℤ, pos, ◌≤ℤ◌, ◌<ℤ◌, length}
-use Rattle.std.proofs.Math.Path.{refl}
-use Rattle.std.proofs.Common.{ap, ◌∙◌, arith, ltb-true, ltb-false}
-use Rattle.std.proofs.Math.Bool.{true, false}
+use Rattle.std.specs.Prelude.{◌≡◌, List, ◌∷◌, ℤ, pos, ◌≤ℤ◌, ◌<ℤ◌, length, refl, true, false, ℕ, zero, suc, ◌<◌, ◌≤◌}
+use Rattle.std.proofs.Common.{ap, ◌∙◌, ⊎_elim, arith, ltb-true, ltb-false}
 use mathlib.Core.List.Memᴰ
-use Prim.Native.Nat.{ℕ, zero, suc, ◌<◌, ◌≤◌}
+use Rattle.std.proofs.lemmas.Bool.{and_parts, and_right, cases_Bool}
 use Rattle.std.specs.Int.Signed.{lt_z, ≤ℤ_refl}
 use Rattle.whole.specs.Whole.{whole, up, apart, lt_true, lt_yes, lt_no}
 use Rattle.circuit.specs.Circuit.{Timed, Served}
 use Rattle.circuit.specs.Lists.{at, count}
-use Rattle.circuit.proofs.ListLaws.{both, count_less}
+use Rattle.circuit.proofs.ListLaws.{count_less}
 use Rattle.circuit.specs.Netlist.{Netlist, parts, net_of, circuit_of, served_of, marked, serves}
 use Rattle.circuit.specs.Times.{arrivals, requireds, slack_at}
 use Rattle.circuit.specs.Rounds.{segment_of, given, chosen, round_of, moves, Run, halt, turn, rounds, settled, positive}
@@ -30,15 +28,11 @@ use Rattle.circuit.proofs.SafeLaws.{safe_timed}
 abbrev pub positives : Netlist → List ℤ → ℕ
 positives n d = count (positive (served_of n.kinds) (arrivals n d) (requireds n d)) (parts n)
 
-and_false : (b : Bool) → b && false ≡ false
-and_false true = refl
-and_false false = refl
-
 -- the test tells
 module _ (sv : List ℕ) (a r : List ℤ) (x : ℕ) where
   pub positive_is : positive sv a r x ≡ true → (marked sv x ≡ true) × (pos 0 <ℤ slack_at a r x)
   unfolding positive
-  positive_is h = let (p, q) = both (marked sv x) (lt_z (pos 0) (slack_at a r x)) h in (p, omega (whole, lt_true (pos 0) (slack_at a r x) q))
+  positive_is h = let (p, q) = and_parts (marked sv x) (lt_z (pos 0) (slack_at a r x)) h in (p, omega (whole, lt_true (pos 0) (slack_at a r x) q))
 
   pub positive_yes : marked sv x ≡ true → pos 0 <ℤ slack_at a r x → positive sv a r x ≡ true
   unfolding positive
@@ -46,7 +40,7 @@ module _ (sv : List ℕ) (a r : List ℤ) (x : ℕ) where
 
   pub positive_no : slack_at a r x ≤ℤ pos 0 → positive sv a r x ≡ false
   unfolding positive
-  positive_no l = rw (lt_no (pos 0) (slack_at a r x) l) (and_false (marked sv x))
+  positive_no l = and_right (marked sv x) _ (lt_no (pos 0) (slack_at a r x) l)
 
 module _ {n : Netlist} (k : Clock n) where
   abbrev sv : List ℕ
@@ -164,17 +158,9 @@ module _ {n : Netlist} (k : Clock n) where
   -- the functions find a run, where they follow it for as many rounds as there are served components with positive slack
   pub run_found : (m : ℕ) (d : List ℤ) → Safe n d → positives n d ≤ m → Run n sv d (settled n sv m d) (rounds n sv m d)
   unfolding settled rounds
-  run_found zero d s h = by (moves n sv d) refl
-    where
-      by : (b : Bool) → moves n sv d ≡ b → Run n sv d d 0
-      by true e = absurd (omega (arith, round_falls s e))
-      by false e = halt e
-  run_found (suc m) d s h = by (moves n sv d) refl (λ g e. run_found m (round_of n sv d) g e)
-    where
-      by : (b : Bool) → moves n sv d ≡ b → (Safe n (round_of n sv d) → positives n (round_of n sv d) ≤ m → Run n sv (round_of n sv d) (settled n sv m (round_of n sv d)) (rounds n sv m (round_of n sv d))) →
-          Run n sv d (cond b (settled n sv m (round_of n sv d)) d) (cond b (suc (rounds n sv m (round_of n sv d))) 0)
-      by true e go = turn e (go (round_keeps s e) (omega (arith, round_falls s e)))
-      by false e go = halt e
+  run_found zero d s h = ⊎_elim (λ e. absurd (omega (arith, round_falls s e))) (λ e. halt e) (cases_Bool (moves n sv d))
+  run_found (suc m) d s h =
+      ⊎_elim (λ e. rw e (turn e (run_found m (round_of n sv d) (round_keeps s e) (omega (arith, round_falls s e))))) (λ e. rw e (halt e)) (cases_Bool (moves n sv d))
 
 -- and no other, where they follow it to its end
 pub run_is : {n : Netlist} {sv : List ℕ} {d f : List ℤ} {c : ℕ} → Run n sv d f c → (m : ℕ) → c ≤ m → (f ≡ settled n sv m d) × (c ≡ rounds n sv m d)

@@ -1,9 +1,7 @@
 -- Delays that keep a circuit in time are at most 200,000,000, so that their times can be worked out; and how far analysed slack goes.
-use Rattle.std.specs.Prelude.{◌≡◌, ◌⊎◌, true, List, [], ℕ, ◌*◌, ◌<◌, ◌^◌, ℤ, negsuc, ◌≤ℤ◌}
-use Rattle.std.proofs.Math.Path.{refl}
+use Rattle.std.specs.Prelude.{◌≡◌, ◌⊎◌, true, List, [], ℕ, ◌*◌, ◌<◌, ◌^◌, ℤ, negsuc, ◌≤ℤ◌, refl, pos}
 use Rattle.std.proofs.Common.{inl, inr, arith}
 use Rattle.std.proofs.Math.Decide.{ℕ_discrete}
-use Rattle.std.proofs.Math.IntN.{pos}
 use Rattle.whole.specs.Whole.{whole, sum, diff}
 use Rattle.whole.specs.Range.{Within, Bounded, bounded_more}
 use Rattle.circuit.specs.Circuit.{Path, begin, into, To, From, reach, Timed}

@@ -1,8 +1,8 @@
 -- Lemma 4 of 001: a segment lies on one path with its slack; and gifts that come to it leave every member with none.
-use Rattle.std.specs.Prelude.{◌≡◌, ℕ, ℤ, pos, ◌-ℤ◌}
-use Rattle.std.proofs.Math.Logic.{⊎_elim}
+use Rattle.std.specs.Prelude.{◌≡◌, ℕ, ℤ, pos, ◌-ℤ◌, List, ◌∷◌}
+use Rattle.std.proofs.Common.{⊎_elim}
 use mathlib.Core.List.Memᴰ
-use mathlib.Core.List.{List, ◌∷◌, Memᴰ}
+use mathlib.Core.List.{Memᴰ}
 use Rattle.whole.specs.Whole.{whole, sum, diff}
 use Rattle.circuit.specs.Circuit.{Circuit, into, To, then, reach, due, stops, On, Path, path_slack, InTime, Timed, Ranked, Served, Tight, Segment, alone, next}
 use Rattle.circuit.proofs.SlackLaws.{lemma1, on_last, join, join_on, join_slack, last_way, first_way, in_time→slack}

@@ -1,42 +1,33 @@
 -- The marks mark just the served, and an accepted netlist has one.
-use Rattle.std.specs.Prelude.{◌≡◌, refl, ◌⊎◌, Bool, true, false, List, ℕ, ◌<◌, eqb, ltb, length, get_or}
-use Rattle.std.proofs.Common.{sym, ◌∙◌, inl, inr, arith, ne_eqb, ltb-true, ltb-false}
+use Rattle.std.specs.Prelude.{◌≡◌, ◌⊎◌, true, false, List, ℕ, ◌<◌, ◌≤◌, length, get_or}
+use Rattle.std.proofs.Common.{inl, inr, arith, ne_eqb}
 use Rattle.std.proofs.Math.Decide.{ℕ_discrete}
-use Rattle.std.proofs.lemmas.List.{length-map}
-use Rattle.std.proofs.Math.ListN.{get_or-map, get_or-eq_default}
+use Rattle.std.proofs.lemmas.Bool.{both_ways}
+use Rattle.std.proofs.lemmas.List.{length-map, get_or_past}
+use Rattle.std.proofs.Math.ListN.{get_or-map}
 use Rattle.circuit.specs.Circuit.{Served}
 use Rattle.circuit.specs.Netlist.{Netlist, parts, wires, kind, from, to, net_of, mark, served_of, serves, Judged}
-use Rattle.circuit.proofs.ListLaws.{clash}
 
 pub length-served : (ks : List ℕ) → length (served_of ks) ≡ length ks
 length-served ks = length-map ks mark
 
+-- the mark at x is the mark of the kind at x, past the end too
 mark_at : (ks : List ℕ) (x : ℕ) → get_or (served_of ks) x 0 ≡ mark (get_or ks x 0)
 mark_at ks x = get_or-map mark ks x 0
 
-mark_no : (k : ℕ) → k ≡ 0 → eqb (mark k) 1 ≡ false
-mark_no k e = rw e
-
-mark_yes : (k : ℕ) → (k ≡ 0 → ⊥) → eqb (mark k) 1 ≡ true
-mark_yes k h = rw (ne_eqb k 0 h)
-
 module _ (n : Netlist) where
   pub serves_no : (x : ℕ) → kind n x ≡ 0 → serves n x ≡ false
-  serves_no x e = rw (mark_at n.kinds x) (mark_no (kind n x) e)
+  serves_no x e = rw (mark_at n.kinds x, e)
 
   pub serves_yes : (x : ℕ) → (kind n x ≡ 0 → ⊥) → serves n x ≡ true
-  serves_yes x h = rw (mark_at n.kinds x) (mark_yes (kind n x) h)
+  serves_yes x h = rw (mark_at n.kinds x, ne_eqb (kind n x) 0 h)
 
   -- a marked number is no input, and a component: past its end a list of kinds has 0
   pub serves_kind : (x : ℕ) → serves n x ≡ true → kind n x ≡ 0 → ⊥
-  serves_kind x h e = clash (sym h ∙ serves_no x e)
+  serves_kind x h e = both_ways (serves n x) (serves_no x e) h
 
   pub serves_part : (x : ℕ) → serves n x ≡ true → x < parts n
-  serves_part x h = by (ltb x (parts n)) refl
-    where
-      by : (b : Bool) → ltb x (parts n) ≡ b → x < parts n
-      by true e = ltb-true x (parts n) e
-      by false e = absurd (serves_kind x h (get_or-eq_default n.kinds 0 {n = x} (ltb-false x (parts n) e)))
+  serves_part x h = let inside : parts n ≤ x → ⊥ = λ l. serves_kind x h (get_or_past n.kinds x 0 l) in omega arith
 
   pub serves_is : (x : ℕ) → serves n x ≡ true → Served (net_of n) x
   serves_is x h = record { part = serves_part x h; counts = λ s. serves_kind x h s.1 }

@@ -1,8 +1,7 @@
 -- Lemmas 1 and 2 of 001: the least path slack through a component is its slack. And in time, said of paths, of outputs and of all components.
-use Rattle.std.specs.Prelude.{◌≡◌, refl, ◌↔◌, ℤ, pos, ◌+ℤ◌, ◌-ℤ◌, ◌≤ℤ◌}
+use Rattle.std.specs.Prelude.{◌≡◌, refl, ◌↔◌, ℤ, pos, ◌+ℤ◌, ◌-ℤ◌, ◌≤ℤ◌, ℕ, zero, suc, ◌+◌, ◌<◌}
 use Rattle.std.proofs.Common.{inl, inr, ⊎_elim, arith}
 use mathlib.Core.List.Memᴰ
-use Prim.Native.Nat.{ℕ, zero, suc, ◌+◌, ◌<◌}
 use Rattle.whole.specs.Whole.{whole, sum, diff}
 use Rattle.circuit.specs.Circuit.{Net, Circuit, begin, into, To, start, then, From, stop, on, reach, due, On, Path, path_slack, InTime, LeastThrough, slack, Arrives, Needed, Timed, Ranked}
 

@@ -1,16 +1,13 @@
 -- The steps of the walks: `after` gives the lowest-numbered fan-out, and `before` the lowest-numbered served fan-in, for which both walk
 -- equalities hold, and the component count exactly where there is none. Of how components are numbered nothing is asked: the connections
 -- rise by (to, from), so the first that passes has the lowest number.
-use Rattle.std.specs.Prelude.{◌≡◌, Bool, true, ◌&&◌, List, ℕ, ◌+◌, ◌<◌, ◌≤◌, eqb, ℤ, length}
-use Rattle.std.proofs.Math.Path.{refl}
-use Rattle.std.proofs.Common.{sym, ◌∙◌, arith}
-use Rattle.std.proofs.Math.Logic.{⊎_elim}
-use Rattle.std.proofs.Math.Decide.{ℕ_discrete}
-use borrow.Author.Tests.{eqb-true, eq-eqb}
+use Rattle.std.specs.Prelude.{◌≡◌, Bool, true, ◌&&◌, List, ℕ, ◌+◌, ◌<◌, ◌≤◌, eqb, ℤ, length, refl}
+use Rattle.std.proofs.Common.{arith, ⊎_elim, eq-or-lt_of_le, eqb-true, eq-eqb}
+use Rattle.std.proofs.lemmas.Bool.{both_ways, and_parts, and_from}
 use Rattle.whole.specs.Whole.{eq_is, eq_yes}
 use Rattle.circuit.specs.Circuit.{into, Tight}
 use Rattle.circuit.specs.Lists.{at}
-use Rattle.circuit.proofs.ListLaws.{First, found, missing, first_of_lem, both, clash}
+use Rattle.circuit.proofs.ListLaws.{First, found, missing, first_of_lem}
 use Rattle.circuit.specs.Netlist.{Netlist, parts, wires, from, to, circuit_of, marked, Wired, Sorted}
 use Rattle.circuit.specs.Rounds.{level, leads, after, feeds, before}
 
@@ -31,21 +28,17 @@ record Search (f : ℕ → Bool) (g : ℕ → ℕ) (m e : ℕ) (P : ℕ → Type
 
 -- g at the first that passes is no more than at any other
 le_at : (g : ℕ → ℕ) (j i : ℕ) → (i < j → ⊥) → (j < i → g j ≤ g i) → g j ≤ g i
-le_at g j i h f = by (ℕ_discrete j i)
-  where
-    by : Dec (j ≡ i) → g j ≤ g i
-    by (yes e) = rw e (omega arith)
-    by (no e) = f (omega arith)
+le_at g j i h f = ⊎_elim (λ e. rw e (omega arith)) f (eq-or-lt_of_le (omega arith))
 
 module _ {f : ℕ → Bool} {g : ℕ → ℕ} {m e : ℕ} {P : ℕ → Type 0} (s : Search f g m e P) where
   -- what is found is no higher than any component of which P holds
   low : {x : ℕ} → First f g 0 (0 + m) e x → (y : ℕ) → P y → x ≤ y
   low (found j k l t u v) y p =
       let (i, b, h, q) = s.all y p in
-      omega (arith, le_at g j i (λ c. clash (sym h ∙ v i (omega arith) c)) (λ c. s.rise j i c b t h))
+      omega (arith, le_at g j i (λ c. both_ways (f i) (v i (omega arith) c) h) (λ c. s.rise j i c b t h))
   low (missing u v) y p =
       let (i, b, h, q) = s.all y p in
-      absurd (clash (sym h ∙ v i (omega arith) (omega arith)))
+      absurd (both_ways (f i) (v i (omega arith) (omega arith)) h)
 
   -- what is found is the lowest of which P holds
   search_is : {b x : ℕ} → First f g 0 (0 + m) e x → e ≡ b → x < b → Lowest P x
@@ -60,9 +53,6 @@ module _ {f : ℕ → Bool} {g : ℕ → ℕ} {m e : ℕ} {P : ℕ → Type 0} (
 
 -- ---- the steps
 
-and_yes : (p q : Bool) → p ≡ true → q ≡ true → p && q ≡ true
-and_yes p q e f = rw (e, f)
-
 module _ (n : Netlist) (d a r : List ℤ) where
   abbrev Joined : ℕ → ℕ → Type 0
   Joined = Tight (circuit_of n) (at d) (at a) (at r)
@@ -74,12 +64,12 @@ module _ (n : Netlist) (d a r : List ℤ) where
   taut_is : {x y : ℕ} (j : ℕ) → j < wires n → from n j ≡ x → to n j ≡ y → taut j ≡ true → Joined x y
   unfolding level into
   taut_is j l e f h =
-      let (p, q) = both (level d r (from n j) (to n j)) (level d a (from n j) (to n j)) h in
+      let (p, q) = and_parts (level d r (from n j) (to n j)) (level d a (from n j) (to n j)) h in
       rw (← e, ← f) (record { wire = (j, l, refl, refl); same_required = eq_is _ _ p; same_arrival = eq_is _ _ q })
 
   taut_yes : {x y : ℕ} (j : ℕ) → from n j ≡ x → to n j ≡ y → Joined x y → taut j ≡ true
   unfolding level into
-  taut_yes {x} {y} j e f t = rw (e, f) (and_yes (level d r x y) (level d a x y) (eq_yes _ _ t.same_required) (eq_yes _ _ t.same_arrival))
+  taut_yes {x} {y} j e f t = rw (e, f) (and_from (level d r x y) (level d a x y) (eq_yes _ _ t.same_required) (eq_yes _ _ t.same_arrival))
 
   module _ (all_delays : length d ≡ parts n) (w : Wired n.froms n.tos (parts n)) (s : Sorted n.froms n.tos) where
     -- forward, the targets rise
@@ -87,8 +77,8 @@ module _ (n : Netlist) (d a r : List ℤ) where
     unfolding leads
     forward x =
         record {
-          only = λ j l h. let (p, q) = both (eqb (from n j) x) (taut j) h in taut_is j l (eqb-true (from n j) x p) refl q;
-          all = λ y t. let (j, l, p, q) = t.wire in (j, l, and_yes (eqb (from n j) x) (taut j) (eq-eqb (from n j) x p) (taut_yes j p q t), q);
+          only = λ j l h. let (p, q) = and_parts (eqb (from n j) x) (taut j) h in taut_is j l (eqb-true (from n j) x p) refl q;
+          all = λ y t. let (j, l, p, q) = t.wire in (j, l, and_from (eqb (from n j) x) (taut j) (eq-eqb (from n j) x p) (taut_yes j p q t), q);
           rise = λ i j l h p q. ⊎_elim (λ c. omega arith) (λ c. omega arith) (s.rise i j l h);
           inside = λ j. rw all_delays (w.target j);
         }
@@ -99,15 +89,15 @@ module _ (n : Netlist) (d a r : List ℤ) where
     backward sv x =
         record {
           only = λ j l h.
-              let (p, k) = both (eqb (to n j) x) (marked sv (from n j) && taut j) h in
-              let (m, q) = both (marked sv (from n j)) (taut j) k in
+              let (p, k) = and_parts (eqb (to n j) x) (marked sv (from n j) && taut j) h in
+              let (m, q) = and_parts (marked sv (from n j)) (taut j) k in
               (taut_is j l refl (eqb-true (to n j) x p) q, m);
           all = λ y t.
               let (j, l, p, q) = t.0.wire in
-              (j, l, and_yes (eqb (to n j) x) (marked sv (from n j) && taut j) (eq-eqb (to n j) x q) (and_yes (marked sv (from n j)) (taut j) (rw p t.1) (taut_yes j p q t.0)), p);
+              (j, l, and_from (eqb (to n j) x) (marked sv (from n j) && taut j) (eq-eqb (to n j) x q) (and_from (marked sv (from n j)) (taut j) (rw p t.1) (taut_yes j p q t.0)), p);
           rise = λ i j l h p q.
-              let u = eqb-true (to n i) x (both (eqb (to n i) x) (marked sv (from n i) && taut i) p).0 in
-              let v = eqb-true (to n j) x (both (eqb (to n j) x) (marked sv (from n j) && taut j) q).0 in
+              let u = eqb-true (to n i) x (and_parts (eqb (to n i) x) (marked sv (from n i) && taut i) p).0 in
+              let v = eqb-true (to n j) x (and_parts (eqb (to n j) x) (marked sv (from n j) && taut j) q).0 in
               ⊎_elim (λ c. omega arith) (λ c. omega arith) (s.rise i j l h);
           inside = λ j. rw all_delays (w.source j);
         }

@@ -1,18 +1,12 @@
 -- Laws of sweeps, for any way and any choice of the better of two: what a sweep leaves, what it offers, how far it can fall; and of orders:
 -- the other way round, and the numbers from s on.
-use Rattle.std.specs.Prelude.{◌≡◌, ◌⊎◌, pos}
-use Rattle.std.proofs.Math.Path.{refl}
-use Rattle.std.proofs.Common.{sym, ap, ◌∙◌, inr, ⊎_elim, length-set, get_or-set_other}
-use Rattle.std.proofs.Math.Logic.{inl}
+use Rattle.std.specs.Prelude.{◌≡◌, ◌⊎◌, pos, refl, List, [], ◌∷◌, ◌++◌, reverse, ℕ, zero, suc, ◌+◌, ◌<◌, ◌≤◌, ℤ, length}
+use Rattle.std.proofs.Common.{sym, ap, ◌∙◌, inr, ⊎_elim, length-set, get_or-set_other, inl, arith, get_or-set_same}
+use Rattle.std.proofs.lemmas.Bool.{cases_eq}
 use mathlib.Core.List.Memᴰ
-use mathlib.Core.List.{List, [], ◌∷◌, ◌++◌, reverse, reverse-cons, Memᴰ}
-use Prim.Native.Nat.{ℕ, zero, suc, ◌+◌, ◌<◌, ◌≤◌}
+use mathlib.Core.List.{reverse-cons, Memᴰ}
 use Rattle.std.proofs.Math.Numerals.{unary_clauses}
-use native.Mathlib.Omega.{arith}
 use Rattle.std.proofs.Math.Decide.{ℕ_discrete}
-use Rattle.std.proofs.Math.IntN.{ℤ}
-use Rattle.std.proofs.Math.ListN.{length}
-use Rattle.std.proofs.Math.Seq.{get_or-set_same}
 use Rattle.circuit.specs.Lists.{at, up_from}
 use Rattle.circuit.proofs.ListLaws.{from_out}
 use Rattle.circuit.specs.Times.{Way, step, sweep, Ordered, none, then}
@@ -72,11 +66,7 @@ module _ (v : Way) (n : ℕ) (inside : (j : ℕ) → v.tgt j < n) where
   module _ (R : ℤ → ℤ → Type 0) (o : Chooses v.pick R) where
     -- no number gets worse by a step
     step_grows : (j : ℕ) (a : List ℤ) → length a ≡ n → (x : ℕ) → R (at a x) (at (step v j a) x)
-    step_grows j a l x = by (ℕ_discrete (v.tgt j) x)
-      where
-        by : Dec (v.tgt j ≡ x) → R (at a x) (at (step v j a) x)
-        by (yes e) = rw (← e, hit j a l) (o.left _ _)
-        by (no e) = rw (miss v j a x e) (o.same _)
+    step_grows j a l x = ⊎_elim (λ e. rw (← e, hit j a l) (o.left _ _)) (λ e. rw (miss v j a x e) (o.same _)) (cases_eq (v.tgt j) x)
 
     -- nor by a sweep
     pub grows : (w : List ℕ) (a : List ℤ) → length a ≡ n → (x : ℕ) → R (at a x) (at (sweep v w a) x)

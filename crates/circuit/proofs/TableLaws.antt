@@ -1,10 +1,10 @@
 -- The rows of the table hold: one test over each list computes to true, and one theorem turns it into each row.
-use Rattle.std.specs.Prelude.{◌≡◌, refl, Bool, true, false, ◌&&◌, eqb}
-use Rattle.std.proofs.Common.{sym, ap, eqb-true}
-use mathlib.Core.List.{List, [], ◌∷◌, Memᴰ}
+use Rattle.std.specs.Prelude.{◌≡◌, refl, Bool, true, false, ◌&&◌, eqb, List, [], ◌∷◌}
+use Rattle.std.proofs.Common.{ap, eqb-true}
+use Rattle.std.proofs.lemmas.Bool.{false≢true, and_parts}
+use mathlib.Core.List.{Memᴰ}
 use Rattle.whole.specs.Whole.{eq_z, eq_is, max_z, min_z}
 use Rattle.whole.specs.Pick.{if?}
-use Rattle.circuit.proofs.ListLaws.{clash, both}
 use Rattle.circuit.specs.Netlist.{served_of}
 use Rattle.circuit.specs.Lists.{up_from, tabulate, first_of, lowest, count}
 use Rattle.circuit.specs.Times.{step, sweep, order, anchor, arrivals, requireds, slacks, overdue, in_time, late, lowest_late}
@@ -47,18 +47,18 @@ table_holds = refl
 same_is : {A : Type 0} (eq : A → A → Bool) → ((x y : A) → eq x y ≡ true → x ≡ y) → (l m : List A) → same_by eq l m ≡ true → l ≡ m
 unfolding same_by
 same_is eq f [] [] h = refl
-same_is eq f [] (y ∷ ys) h = absurd (clash (sym h))
-same_is eq f (x ∷ xs) [] h = absurd (clash (sym h))
-same_is eq f (x ∷ xs) (y ∷ ys) h = let (p, q) = both (eq x y) (same_by eq xs ys) h in rw (f x y p, same_is eq f xs ys q)
+same_is eq f [] (y ∷ ys) h = absurd (false≢true h)
+same_is eq f (x ∷ xs) [] h = absurd (false≢true h)
+same_is eq f (x ∷ xs) (y ∷ ys) h = let (p, q) = and_parts (eq x y) (same_by eq xs ys) h in rw (f x y p, same_is eq f xs ys q)
 
 outcome_is : (o u : Outcome) → same_outcome o u ≡ true → o ≡ u
 unfolding same_outcome
 outcome_is (LateAt x) (LateAt y) h = ap LateAt (eqb-true x y h)
-outcome_is (LateAt x) (Budgeted t k l) h = absurd (clash (sym h))
-outcome_is (Budgeted s i l) (LateAt y) h = absurd (clash (sym h))
+outcome_is (LateAt x) (Budgeted t k l) h = absurd (false≢true h)
+outcome_is (Budgeted s i l) (LateAt y) h = absurd (false≢true h)
 outcome_is (Budgeted s i l) (Budgeted t j m) h =
-    let (p, g) = both (eqb s t) (eqb i j && same_by eqb l m) h in
-    let (q, r) = both (eqb i j) (same_by eqb l m) g in
+    let (p, g) = and_parts (eqb s t) (eqb i j && same_by eqb l m) h in
+    let (q, r) = and_parts (eqb i j) (same_by eqb l m) g in
     rw (eqb-true s t p, eqb-true i j q, same_is eqb eqb-true l m r)
 
 row_says : (r : Row) → holds r ≡ true → Says r
@@ -71,8 +71,8 @@ row_says (Walks n d a r x l) h = same_is eqb eqb-true (segment_of n.froms n.tos 
 every : (l : List Row) → all_hold l ≡ true → (r : Row) → Memᴰ r l → holds r ≡ true
 unfolding all_hold
 every [] h r x'' = elim x'' [ ]
-every (q ∷ l) h r (Memᴰ.head e) = rw e (both (holds q) (all_hold l) h).0
-every (q ∷ l) h r (Memᴰ.tail m) = every l (both (holds q) (all_hold l) h).1 r m
+every (q ∷ l) h r (Memᴰ.head e) = rw e (and_parts (holds q) (all_hold l) h).0
+every (q ∷ l) h r (Memᴰ.tail m) = every l (and_parts (holds q) (all_hold l) h).1 r m
 
 pub walked_holds : all_hold walked ≡ true
 unfolding all_hold

@@ -1,11 +1,9 @@
 -- The sweeps give the circuit's times: for any order of the connections in which nothing improves a number that was used already, and for
 -- delays of either sign.
-use Rattle.std.specs.Prelude.{◌≡◌, refl, ◌⊎◌, pos, negsuc, ◌+ℤ◌, ◌-ℤ◌, ◌≤ℤ◌, length, get_or}
-use Rattle.std.proofs.Common.{ap, ◌∙◌, inl, inr, ⊎_elim, arith, eq-eqb, ne_eqb}
-use mathlib.Core.List.{List, reverse, Memᴰ}
-use Prim.Native.Nat.{ℕ, suc, ◌+◌, ◌*◌, ◌^◌, ◌<◌, ◌≤◌}
+use Rattle.std.specs.Prelude.{◌≡◌, refl, ◌⊎◌, pos, negsuc, ◌+ℤ◌, ◌-ℤ◌, ◌≤ℤ◌, length, get_or, List, reverse, ℕ, suc, ◌+◌, ◌*◌, ◌^◌, ◌<◌, ◌≤◌, ℤ}
+use Rattle.std.proofs.Common.{ap, ◌∙◌, inl, inr, ⊎_elim, arith, eq-or-lt_of_le, eq-eqb, ne_eqb}
+use mathlib.Core.List.{Memᴰ}
 use Rattle.std.proofs.Math.Decide.{ℕ_discrete}
-use Rattle.std.proofs.Math.IntN.{ℤ}
 use Rattle.std.specs.Int.Signed.{≤ℤ_refl}
 use Rattle.std.proofs.lemmas.List.{length-reverse}
 use Rattle.whole.specs.Whole.{whole, sum, diff, max_z, min_z, max_one, min_one, max_left, max_right, min_left, min_right}
@@ -168,12 +166,11 @@ unfolding order
 rising_order {n} r s = record {
   all = λ j h. from_in 0 (wires n) j (omega arith) (omega arith);
   only = λ {j} m. omega (arith, from_out 0 (wires n) m);
-  ordered = ordered_from 0 (wires n) (λ j h. r.rise j (omega arith)) (λ j k p h. by j k (ℕ_discrete j k) p (omega arith));
+  ordered = ordered_from 0 (wires n) (λ j h. r.rise j (omega arith)) (λ j k p h. ⊎_elim (λ e. rw e (omega arith)) (λ l. rises j k l (omega arith)) (eq-or-lt_of_le p));
 }
   where
-    by : (j k : ℕ) → Dec (j ≡ k) → j ≤ k → k < wires n → to n j ≤ to n k
-    by j k (yes e) p h = rw e (omega arith)
-    by j k (no e) p h = ⊎_elim (λ t. omega arith) (λ t. omega arith) (s.rise j k (omega arith) h)
+    rises : (j k : ℕ) → j < k → k < wires n → to n j ≤ to n k
+    rises j k l h = ⊎_elim (λ t. omega arith) (λ t. omega arith) (s.rise j k l h)
 
 -- that order has as many places as there are connections
 pub length-order : (n : Netlist) → length (order n) ≡ wires n

@@ -1,16 +1,12 @@
 -- The walks: the segment of x is what 01, "Share and rounds", says. As many steps each way as there are components suffice: along a walk the
 -- rank rises, and no rank reaches the component count.
-use Rattle.std.specs.Prelude.{◌≡◌, Bool, cond, ℤ, length}
-use Rattle.std.proofs.Math.Path.{refl}
-use Rattle.std.proofs.Common.{ap, arith}
+use Rattle.std.specs.Prelude.{◌≡◌, ℤ, length, refl, true, List, [], ◌∷◌, ℕ, zero, suc, ◌+◌, ◌<◌, ltb}
+use Rattle.std.proofs.Common.{ap, arith, ltb-true, ltb-false}
 use Rattle.std.proofs.Math.Logic.{∥∥₁_elim}
+use Rattle.std.proofs.lemmas.Bool.{cond_both}
 use mathlib.Core.HLevel.{⊥_prop}
-use Rattle.std.proofs.Math.Bool.{true, false}
 use mathlib.Core.List.Pairwise
-use mathlib.Core.List.{List, [], ◌∷◌, Memᴰ, Mem, Nodup}
-use Prim.Native.Nat.{ℕ, zero, suc, ◌+◌, ◌<◌}
-use borrow.Author.Tests.{ltb-true, ltb-false}
-use Rattle.std.proofs.Math.Dec.{ltb}
+use mathlib.Core.List.{Memᴰ, Mem, Nodup}
 use Rattle.circuit.specs.Circuit.{Ranked, Tight, Segment, alone, next, last_of}
 use Rattle.circuit.specs.Lists.{at}
 use Rattle.circuit.specs.Netlist.{Netlist, parts, wires, to, net_of, circuit_of, marked, Wired, Sorted}
@@ -118,26 +114,17 @@ module _ (n : Netlist) (sv : List ℕ) (d a r : List ℤ) (all_delays : length d
   ahead_is : (q x : ℕ) → x < parts n → k.top < q + k.rank x → Forward n d a r x (ahead go (parts n) q x)
   unfolding ahead
   ahead_is zero x h l = absurd (omega (arith, k.below h))
-  ahead_is (suc q) x h l = by (ltb (go x) (parts n)) refl (ahead_is q (go x))
-    where
-      by : (b : Bool) → ltb (go x) (parts n) ≡ b → (go x < parts n → k.top < q + k.rank (go x) → Forward n d a r (go x) (ahead go (parts n) q (go x))) → Forward n d a r x (cond b (go x ∷ ahead go (parts n) q (go x)) [])
-      by true e f =
-          let c = ltb-true (go x) (parts n) e in
-          let t = after_is n d a r all_delays w s x c in
-          takes t (f c (omega (arith, k.rises t.holds.wire)))
-      by false e f = stops (after_none n d a r all_delays w s x (ltb-false (go x) (parts n) e))
+  ahead_is (suc q) x h l = cond_both (ltb (go x) (parts n)) (go x ∷ ahead go (parts n) q (go x)) [] (Forward n d a r x)
+      (λ e. let c = ltb-true (go x) (parts n) e in let t = after_is n d a r all_delays w s x c in takes t (ahead_is q (go x) c (omega (arith, k.rises t.holds.wire))))
+      (λ e. stops (after_none n d a r all_delays w s x (ltb-false (go x) (parts n) e)))
 
   -- backward, fuel above the rank of x does
   behind_is : (q x : ℕ) (ys : List ℕ) → k.rank x < q → Backward n sv d a r (behind back (parts n) q x (x ∷ ys)) x ys
   unfolding behind
   behind_is zero x ys l = absurd (omega arith)
-  behind_is (suc q) x ys l = by (ltb (back x) (parts n)) refl (behind_is q (back x) (x ∷ ys))
-    where
-      by : (b : Bool) → ltb (back x) (parts n) ≡ b → (k.rank (back x) < q → Backward n sv d a r (behind back (parts n) q (back x) (back x ∷ x ∷ ys)) (back x) (x ∷ ys)) → Backward n sv d a r (cond b (behind back (parts n) q (back x) (back x ∷ x ∷ ys)) (x ∷ ys)) x ys
-      by true e f =
-          let t = before_is n d a r all_delays w s sv x (ltb-true (back x) (parts n) e) in
-          takes t (f (omega (arith, k.rises t.holds.0.wire)))
-      by false e f = stops refl (before_none n d a r all_delays w s sv x (ltb-false (back x) (parts n) e))
+  behind_is (suc q) x ys l = cond_both (ltb (back x) (parts n)) (behind back (parts n) q (back x) (back x ∷ x ∷ ys)) (x ∷ ys) (λ m. Backward n sv d a r m x ys)
+      (λ e. let t = before_is n d a r all_delays w s sv x (ltb-true (back x) (parts n) e) in takes t (behind_is q (back x) (x ∷ ys) (omega (arith, k.rises t.holds.0.wire))))
+      (λ e. stops refl (before_none n d a r all_delays w s sv x (ltb-false (back x) (parts n) e)))
 
   module _ (fuel : k.top < parts n) (x : ℕ) (h : x < parts n) where
     -- the segment of a component x is what the two walks of 01 leave

@@ -1,5 +1,5 @@
 -- What analyse's promise means: what it writes for a component is the least slack of any path through it.
-use Rattle.std.specs.Prelude.{List, ℕ, ◌<◌, ℤ, pos, length, drop}
+use Rattle.std.specs.Prelude.{List, ℕ, ◌<◌, ℤ, pos, length, drop, Ok}
 use Rattle.std.proofs.Common.{arith}
 use Rattle.std.proofs.Math.ListN.{get_or-append}
 use Rattle.circuit.specs.Circuit.{LeastThrough}
@@ -9,13 +9,12 @@ use Rattle.circuit.specs.Times.{slacks}
 use Rattle.circuit.proofs.ClockLaws.{clock, slacks_least}
 use Rattle.circuit.proofs.SafeLaws.{based_bounded}
 use Rattle.netlists.specs.Judge.{net_on, board_of}
-use Rattle.hozbantir.specs.declared.answers.Answer.TheVariants.{Done}
 use Rattle.hozbantir.proofs.AnswerLaws.{done_taken, done_written}
 use Rattle.hozbantir.specs.Calls.{taken_of, analysis_on, analysis_of, Analyses}
 use Rattle.hozbantir.proofs.TakenLaws.{said_taken}
 use Rattle.hozbantir.proofs.SlacksLaws.{length-slacks}
 
-pub analysed_least : (s : List ℕ) {before after : List ℤ} {k : ℕ} → Analyses s before (Done k) after
+pub analysed_least : (s : List ℕ) {before after : List ℤ} {k : ℕ} → Analyses s before (Ok k) after
     → (x : ℕ) → x < k → LeastThrough (circuit_of (net_on (board_of s))) (at (board_of s).bases) x (at after x)
 unfolding analysis_of analysis_on
 analysed_least s {before} {after} p x h =

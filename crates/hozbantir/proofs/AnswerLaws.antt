@@ -1,17 +1,20 @@
 -- How the code meets what a call leaves.
-use Rattle.std.specs.Prelude.{◌≡◌, refl, List, ◌++◌, ℕ, ◌<◌, ◌≤◌, length, drop}
-use Rattle.std.proofs.Common.{sym, ap, ◌∙◌, arith}
+use Rattle.std.specs.Prelude.{◌≡◌, refl, List, ◌++◌, ℕ, ◌<◌, ◌≤◌, length, drop, Ok, Err}
+use Rattle.std.proofs.Common.{sym, ◌∙◌, arith}
 use Rattle.whole.specs.Pick.{Test, Yes, No, lt, eq, if?, if_yes, if_no, if_cases}
-use Rattle.netlists.specs.declared.Verdict.{Verdict}
-use Rattle.netlists.specs.declared.Verdict.TheVariants as J
-use Rattle.hozbantir.specs.declared.answers.Answer.{Answer}
-use Rattle.hozbantir.specs.declared.answers.Answer.TheVariants.{Done, Room}
-use Rattle.hozbantir.specs.Answers.{number_of, place_of, Left, left, refusal, in_room, Leaves, unless, on_verdict}
+use Rattle.netlists.specs.declared.Extent.{Extent}
+use Rattle.netlists.specs.Judge.{Verdict}
+use Rattle.hozbantir.specs.declared.answers.Refusal.{Refusal}
+use Rattle.hozbantir.specs.declared.answers.Refusal.TheVariants as R
+use Rattle.hozbantir.specs.Answers.{Answer, number_of, place_of, Left, left, refusal, in_room, Leaves, unless, on_verdict}
 use Rattle.hozbantir.proofs.AnswerOne.{answer_one}
 
 -- it does not say that all went well
 abbrev pub Refused : Answer → Type 0
-Refused a = (n : ℕ) → a ≡ Done n → ⊥
+Refused a = (n : ℕ) → a ≡ Ok n → ⊥
+
+pub err_refused : (r : Refusal) → Refused (Err r)
+err_refused r n e = cc
 
 module _ {A : Type 0} where
   -- an answer that refuses leaves the buffer
@@ -19,24 +22,14 @@ module _ {A : Type 0} where
   refusal_leaves a before = record { number = refl; place = refl; writes = refl }
 
 -- a netlist that is not taken is refused
-pub verdict_refused : (v : Verdict) (a : Answer) → ((n m : ℕ) → v ≡ J.Good n m → ⊥) → Refused (on_verdict v a)
-verdict_refused (J.Good n m) a h k e = h n m refl
-verdict_refused (J.Broken p) a h k e = let f = ap number_of e in omega arith
-verdict_refused (J.Tag p) a h k e = let f = ap number_of e in omega arith
-verdict_refused (J.Size p) a h k e = let f = ap number_of e in omega arith
-verdict_refused (J.Field p) a h k e = let f = ap number_of e in omega arith
-verdict_refused (J.Wiring p) a h k e = let f = ap number_of e in omega arith
-verdict_refused (J.Ends x) a h k e = let f = ap number_of e in omega arith
+pub verdict_refused : (v : Verdict) (a : Answer) → ((e : Extent) → v ≡ Ok e → ⊥) → Refused (on_verdict v a)
+verdict_refused (Ok x) a h k e = h x refl
+verdict_refused (Err f) a h k e = cc
 
 -- and the other answer does not matter
-pub verdict_same : (v : Verdict) (a b : Answer) → ((n m : ℕ) → v ≡ J.Good n m → ⊥) → on_verdict v a ≡ on_verdict v b
-verdict_same (J.Good n m) a b h = absurd (h n m refl)
-verdict_same (J.Broken p) a b h = refl
-verdict_same (J.Tag p) a b h = refl
-verdict_same (J.Size p) a b h = refl
-verdict_same (J.Field p) a b h = refl
-verdict_same (J.Wiring p) a b h = refl
-verdict_same (J.Ends x) a b h = refl
+pub verdict_same : (v : Verdict) (a b : Answer) → ((e : Extent) → v ≡ Ok e → ⊥) → on_verdict v a ≡ on_verdict v b
+verdict_same (Ok x) a b h = absurd (h x refl)
+verdict_same (Err f) a b h = refl
 
 module _ {A : Type 0} {before after : List A} {r : Answer} where
   carry : {l k : Left A} → l ≡ k → Leaves l before r after → Leaves k before r after
@@ -61,33 +54,28 @@ module _ {A : Type 0} where
   done_unless a l e = carry (unless_done a l e)
 
 module _ {A : Type 0} (room needed : ℕ) (w before : List A) where
-  pub room_short : room < needed → Leaves (in_room room needed w) before (Room needed) before
-  room_short h = leaves_yes (lt room needed) (refusal (Room needed)) (left (Done needed) w) h (refusal_leaves (Room needed) before)
+  pub room_short : room < needed → Leaves (in_room room needed w) before (Err (R.Room needed)) before
+  room_short h = leaves_yes (lt room needed) (refusal (Err (R.Room needed))) (left (Ok needed) w) h (refusal_leaves (Err (R.Room needed)) before)
 
-  pub room_enough : {after : List A} → needed ≤ room → length w ≡ needed → after ≡ w ++ drop needed before → Leaves (in_room room needed w) before (Done needed) after
-  room_enough h e q = leaves_no (lt room needed) (refusal (Room needed)) (left (Done needed) w) h (record { number = refl; place = refl; writes = q ∙ rw e refl })
+  pub room_enough : {after : List A} → needed ≤ room → length w ≡ needed → after ≡ w ++ drop needed before → Leaves (in_room room needed w) before (Ok needed) after
+  room_enough h e q = leaves_no (lt room needed) (refusal (Err (R.Room needed))) (left (Ok needed) w) h (record { number = refl; place = refl; writes = q ∙ rw e refl })
 
 -- ---- success says that nothing was refused, and that the buffer has what was to be written
 
 module _ {A : Type 0} {before after : List A} {k : ℕ} where
-  pub done_taken : (a : Answer) (l : Left A) → Leaves (unless a l) before (Done k) after → ((n : ℕ) × (a ≡ Done n)) × Leaves l before (Done k) after
+  pub done_taken : (a : Answer) (l : Left A) → Leaves (unless a l) before (Ok k) after → ((n : ℕ) × (a ≡ Ok n)) × Leaves l before (Ok k) after
   done_taken a l =
-      if_cases (λ u. Leaves u before (Done k) after → ((n : ℕ) × (a ≡ Done n)) × Leaves l before (Done k) after) (eq (number_of a) 0) l (refusal a)
+      if_cases (λ u. Leaves u before (Ok k) after → ((n : ℕ) × (a ≡ Ok n)) × Leaves l before (Ok k) after) (eq (number_of a) 0) l (refusal a)
       (λ e p. ((place_of a, answer_one e refl), p))
       (λ h p. absurd (h (sym p.number)))
 
-  pub done_written : (room needed : ℕ) (w : List A) → Leaves (in_room room needed w) before (Done k) after → (k ≡ needed) × (needed ≤ room) × (after ≡ w ++ drop (length w) before)
+  pub done_written : (room needed : ℕ) (w : List A) → Leaves (in_room room needed w) before (Ok k) after → (k ≡ needed) × (needed ≤ room) × (after ≡ w ++ drop (length w) before)
   done_written room needed w =
-      if_cases (λ l. Leaves l before (Done k) after → (k ≡ needed) × (needed ≤ room) × (after ≡ w ++ drop (length w) before)) (lt room needed) (refusal (Room needed)) (left (Done needed) w)
+      if_cases (λ l. Leaves l before (Ok k) after → (k ≡ needed) × (needed ≤ room) × (after ≡ w ++ drop (length w) before)) (lt room needed) (refusal (Err (R.Room needed))) (left (Ok needed) w)
       (λ h p. absurd (let e = p.number in omega arith))
       (λ h p. (p.place, h, p.writes))
 
--- a netlist of which the verdict's answer says Done was taken
-pub verdict_good : (v : Verdict) (a : Answer) {n : ℕ} → on_verdict v a ≡ Done n → ((i : ℕ) × (j : ℕ) × (v ≡ J.Good i j)) × (a ≡ Done n)
-verdict_good (J.Good i j) a e = ((i, j, refl), e)
-verdict_good (J.Broken p) a e = absurd (let f = ap number_of e in omega arith)
-verdict_good (J.Tag p) a e = absurd (let f = ap number_of e in omega arith)
-verdict_good (J.Size p) a e = absurd (let f = ap number_of e in omega arith)
-verdict_good (J.Field p) a e = absurd (let f = ap number_of e in omega arith)
-verdict_good (J.Wiring p) a e = absurd (let f = ap number_of e in omega arith)
-verdict_good (J.Ends x) a e = absurd (let f = ap number_of e in omega arith)
+-- a netlist of which the verdict's answer says Ok was taken
+pub verdict_good : (v : Verdict) (a : Answer) {n : ℕ} → on_verdict v a ≡ Ok n → ((x : Extent) × (v ≡ Ok x)) × (a ≡ Ok n)
+verdict_good (Ok x) a e = ((x, refl), e)
+verdict_good (Err f) a e = cc

@@ -1,9 +1,7 @@
 -- The demands hold of what the calls leave.
-use Rattle.std.specs.Prelude.{◌≡◌, refl, ℕ, ◌<◌, ◌≤◌, get_or, take, drop}
-use Rattle.std.proofs.Common.{sym, ◌∙◌, subst, arith, length-append, length-drop, take_at, drop_at}
-use Rattle.std.proofs.Math.Path.{ap}
-use mathlib.Core.List.{List, ◌++◌}
-use Rattle.std.proofs.Math.ListN.{length, get_or-append}
+use Rattle.std.specs.Prelude.{◌≡◌, refl, List, ◌++◌, ℕ, ◌<◌, ◌≤◌, length, get_or, take, drop, Ok, Err}
+use Rattle.std.proofs.Common.{sym, ap, ◌∙◌, subst, arith, length-append, length-drop, take_at, drop_at}
+use Rattle.std.proofs.Math.ListN.{get_or-append}
 use Rattle.whole.specs.Whole.{up}
 use Rattle.whole.specs.Pick.{lt, if_cases}
 use Rattle.circuit.specs.Circuit.{Path}
@@ -19,9 +17,8 @@ use Rattle.netlists.specs.Judge.{board_of}
 use Rattle.results.specs.Result.{bound_on, bounds_read}
 use Rattle.results.specs.Bounds.{length-read, read_at}
 use Rattle.results.specs.Accepted.{OfBytes, same_bytes}
-use Rattle.hozbantir.specs.declared.answers.Answer.{Answer}
-use Rattle.hozbantir.specs.declared.answers.Answer.TheVariants.{Done, Room, Late}
-use Rattle.hozbantir.specs.Answers.{number_of, left, refusal, Leaves}
+use Rattle.hozbantir.specs.declared.answers.Refusal.TheVariants as R
+use Rattle.hozbantir.specs.Answers.{Answer, number_of, left, refusal, Leaves}
 use Rattle.hozbantir.proofs.AnswerOne.{answer_one}
 use Rattle.hozbantir.proofs.AnswerLaws.{done_taken, done_unless, done_written}
 use Rattle.hozbantir.specs.Calls.{taken_of, Budgets, both_of, said_of, bounds_on, read_back_of, ReadsBack}
@@ -33,7 +30,7 @@ use Rattle.hozbantir.specs.Demands.{netlist_in, circuit_in, base_in, served_in, 
 
 -- ---- demand 3
 
-pub demand_3 : (s : List ℕ) {before after : List ℕ} {k : ℕ} → Budgets 1 s before (Done k) after → Even s (take k after)
+pub demand_3 : (s : List ℕ) {before after : List ℕ} {k : ℕ} → Budgets 1 s before (Ok k) after → Even s (take k after)
 demand_3 s p =
     let w = budget_wrote 1 s p in
     let t = w.taken in
@@ -46,7 +43,7 @@ demand_3 s p =
 
 -- ---- demand 2: what was written
 
-pub demand_2 : (m : ℕ) (s : List ℕ) {before after : List ℕ} {k : ℕ} → Budgets m s before (Done k) after → ToldRight m s (take k after)
+pub demand_2 : (m : ℕ) (s : List ℕ) {before after : List ℕ} {k : ℕ} → Budgets m s before (Ok k) after → ToldRight m s (take k after)
 demand_2 m s p =
     let w = budget_wrote m s p in
     let a = w.taken.accepted in
@@ -88,31 +85,31 @@ module _ (s q : List ℕ) where
       rw (read, at_x) (bound_is s q x)
 
   -- a result that is taken reads back, in any buffer with room
-  pub taken_reads : {n : ℕ} → both_of s q ≡ Done n → ReadsAlways s q
+  pub taken_reads : {n : ℕ} → both_of s q ≡ Ok n → ReadsAlways s q
   unfolding read_back_of bounds_on
   taken_reads e = record { reads = reads' }
     where
       reads' : {before after : List ℕ} {r : Answer} → ReadsBack s q before r after → parts (netlist_in s) ≤ length before → Reads s q r after
       reads' {before} {after} {r} p enough =
-          if_cases (λ l. Leaves l before r after → Reads s q r after) (lt (length before) (parts (netlist_in s))) (refusal (Room (parts (netlist_in s)))) (left (Done (parts (netlist_in s))) bounds)
+          if_cases (λ l. Leaves l before r after → Reads s q r after) (lt (length before) (parts (netlist_in s))) (refusal (Err (R.Room (parts (netlist_in s))))) (left (Ok (parts (netlist_in s))) bounds)
           (λ h. absurd (omega arith))
           (λ h f. record { accepted = answer_one f.number f.place; bounds = rw f.writes (bounds_in before) })
           (done_unless (both_of s q) _ (ap number_of e) p)
 
-  module _ {before after : List ℕ} {k : ℕ} (p : ReadsBack s q before (Done k) after) where
-    pub reads_agree : (both_of s q ≡ Done (parts (netlist_in s))) × (k ≡ parts (netlist_in s)) × (parts (netlist_in s) ≤ length before) × (after ≡ bounds ++ drop (length bounds) before)
+  module _ {before after : List ℕ} {k : ℕ} (p : ReadsBack s q before (Ok k) after) where
+    pub reads_agree : (both_of s q ≡ Ok (parts (netlist_in s))) × (k ≡ parts (netlist_in s)) × (parts (netlist_in s) ≤ length before) × (after ≡ bounds ++ drop (length bounds) before)
     unfolding read_back_of bounds_on
     reads_agree =
         let (done, f) = done_taken (both_of s q) _ p in
         let agree = (both_agree s q done.1).3 in
         let (n, h, w) = done_written (length before) (parts (netlist_in s)) bounds f in
-        (done.1 ∙ ap Done agree.count, n, h, w)
+        (done.1 ∙ ap Ok agree.count, n, h, w)
 
     same_length : length after ≡ length before
     same_length = let (_, _, h, e) = reads_agree in rw (e, length-append bounds (drop (length bounds) before), count) (omega (arith, length-drop (parts (netlist_in s)) before))
 
     -- a second call over its own output changes nothing: "however often it is read" (demand 2)
-    pub reads_again : ReadsBack s q after (Done k) after
+    pub reads_again : ReadsBack s q after (Ok k) after
     reads_again =
         let behind : drop (length (read_back_of s q (length before)).written) after ≡ drop (length (read_back_of s q (length before)).written) before
         = rw p.writes (drop_at (read_back_of s q (length before)).written _ (length (read_back_of s q (length before)).written) refl) in
@@ -123,11 +120,11 @@ module _ (s q : List ℕ) where
     reads_given = let (_, n, _, e) = reads_agree in rw (e, n) (take_at bounds (drop (length bounds) before) (parts (netlist_in s)) count)
 
 -- "A written result reads back to base plus increment" (demand 2): what budget wrote is accepted by read back whenever the buffer has room
-pub demand_2_back : (m : ℕ) (s : List ℕ) {before after : List ℕ} {k : ℕ} → Budgets m s before (Done k) after → ReadsAlways s (take k after)
+pub demand_2_back : (m : ℕ) (s : List ℕ) {before after : List ℕ} {k : ℕ} → Budgets m s before (Ok k) after → ReadsAlways s (take k after)
 demand_2_back m s {after = after} {k} p = let w = budget_wrote m s p in taken_reads s (take k after) (agree_both s (take k after) w.judged (wrote_told w))
 
 -- "no two accepted results for one netlist differ in bytes only" (demand 2)
-pub demand_2_bytes : (s : List ℕ) {q q' before before' after after' : List ℕ} {k k' : ℕ} → OfBytes q → OfBytes q' → ReadsBack s q before (Done k) after → ReadsBack s q' before' (Done k') after'
+pub demand_2_bytes : (s : List ℕ) {q q' before before' after after' : List ℕ} {k k' : ℕ} → OfBytes q → OfBytes q' → ReadsBack s q before (Ok k) after → ReadsBack s q' before' (Ok k') after'
     → summary_in s q ≡ summary_in s q' → said_of s q ≡ said_of s q' → q ≡ q'
 demand_2_bytes s {q} {q'} b b' p p' e i =
     let told = (both_agree s q (reads_agree s q p).0).3.told in
@@ -135,20 +132,20 @@ demand_2_bytes s {q} {q'} b b' p p' e i =
 
 -- ---- late
 
-module _ {m n : ℕ} (s : List ℕ) {before after : List ℕ} {r : Answer} (h : m ≤ 1) (e : taken_of s ≡ Done n) (p : Budgets m s before r after) where
+module _ {m n : ℕ} (s : List ℕ) {before after : List ℕ} {r : Answer} (h : m ≤ 1) (e : taken_of s ≡ Ok n) (p : Budgets m s before r after) where
   abbrev t : Taken (netlist_in s) (board_of s).bases
   t = said_taken s e
 
   abbrev outcome : Outcome
   outcome = budget_of m (netlist_in s) (board_of s).bases
 
-  late_only : {x : ℕ} → r ≡ Late x → (w : Path (circuit_in s).net) × C.Late (circuit_in s) (base_in s) w
+  late_only : {x : ℕ} → r ≡ Err (R.Late x) → (w : Path (circuit_in s).net) × C.Late (circuit_in s) (base_in s) w
   late_only f =
       let q = rw f at (budget_decides s h e p) in
       let g = (late_says t.accepted t.based m (outcome_late m (netlist_in s) (board_of s).bases (length before) outcome q)).path in
       (g.0, g.2)
 
-  late_holds : (w : Path (circuit_in s).net) → C.Late (circuit_in s) (base_in s) w → (x : ℕ) × (r ≡ Late x)
+  late_holds : (w : Path (circuit_in s).net) → C.Late (circuit_in s) (base_in s) w → (x : ℕ) × (r ≡ Err (R.Late x))
   late_holds w late =
       let q = rw (late_path t.accepted t.based m w late) at (budget_decides s h e p) in
       (lowest_late (netlist_in s) (board_of s).bases, answer_one q.number q.place)

@@ -2,8 +2,7 @@
 -- each call and each export, over the predicate that it ensures. There is no exception.
 use Rattle.std.specs.Prelude.{◌≡◌, List, ℕ, ◌/◌, ◌%◌, ◌<◌, ℤ, length}
 use Rattle.std.proofs.Common.{arith}
-use Rattle.hozbantir.specs.declared.answers.Answer.{Answer}
-use Rattle.hozbantir.specs.Answers.{Left}
+use Rattle.hozbantir.specs.Answers.{Answer, Left}
 use Rattle.hozbantir.proofs.AnswerOne.{leaves_one}
 use Rattle.hozbantir.specs.Calls.{analysis_of, Analyses, budget_for, Budgets, read_back_of, ReadsBack}
 use Rattle.hozbantir.specs.Exports.{room_in, Sends, SendsAnalysis, SendsBudget, SendsBounds, sends_one}

@@ -8,7 +8,6 @@ pub mod NineLaws
 -- How the code meets them.
 pub mod AnswerLaws
 pub mod TakenLaws
-pub mod Tags
 pub mod CallLaws
 pub mod SlacksLaws
 pub mod BudgetingLaws

@@ -1,9 +1,8 @@
 -- No run stalls, and what C gets never has number 9, for every netlist, result, mode and buffer. That no answer has it is `not_nine` of `Fair`.
-use Rattle.std.specs.Prelude.{◌≡◌, List, ℕ, length}
+use Rattle.std.specs.Prelude.{◌≡◌, List, ℕ, length, Ok}
 use Rattle.std.proofs.Common.{sym, ◌∙◌}
 use Rattle.circuit.specs.Circuit.{InTime}
 use Rattle.circuit.proofs.OutcomeLaws.{ends}
-use Rattle.hozbantir.specs.declared.answers.Answer.TheVariants.{Done}
 use Rattle.hozbantir.specs.Calls.{taken_of}
 use Rattle.hozbantir.specs.Exports.{room_in, SendsAnalysis, SendsBudget, SendsBounds}
 use Rattle.hozbantir.specs.Demands.{circuit_in, base_in, NeverStalls, SentNotNine}
@@ -12,7 +11,7 @@ use Rattle.hozbantir.proofs.Fair.{analysis_fair, budget_fair, reads_fair}
 use Rattle.hozbantir.proofs.Determined.{analysis_apart, budget_apart, bounds_apart}
 
 -- of a netlist that is taken, and in time at base delays, the rounds of every mode end by themselves
-pub never_stalls : (m : ℕ) (s : List ℕ) {n : ℕ} → taken_of s ≡ Done n → InTime (circuit_in s) (base_in s) → NeverStalls m s
+pub never_stalls : (m : ℕ) (s : List ℕ) {n : ℕ} → taken_of s ≡ Ok n → InTime (circuit_in s) (base_in s) → NeverStalls m s
 never_stalls m s e safe = let t = said_taken s e in ends t.accepted t.based m safe
 
 module _ {before after : List ℕ} {v : ℕ} where

@@ -1,12 +1,9 @@
 -- How the exports meet what they send: from what a call leaves to what C gets.
-use Rattle.std.specs.Prelude.{◌≡◌, ℕ, ◌<◌, ◌≤◌}
-use Rattle.std.proofs.Math.Path.{refl}
+use Rattle.std.specs.Prelude.{◌≡◌, refl, List, ℕ, ◌<◌, ◌≤◌, Ok, Err}
 use Rattle.std.proofs.Common.{sym, ◌∙◌}
-use mathlib.Core.List.{List}
 use Rattle.whole.specs.Pick.{lt, if_yes, if_no}
-use Rattle.hozbantir.specs.declared.answers.Answer.{Answer}
-use Rattle.hozbantir.specs.declared.answers.Answer.TheVariants.{Done, Room}
-use Rattle.hozbantir.specs.Answers.{place_of, Left, left, refusal, in_room, Leaves}
+use Rattle.hozbantir.specs.declared.answers.Refusal.TheVariants as R
+use Rattle.hozbantir.specs.Answers.{Answer, place_of, Left, left, refusal, in_room, Leaves}
 use Rattle.hozbantir.specs.Exports.{code_of, spread, sent, Sends}
 use Rattle.hozbantir.specs.Spreading.{length-spread, laid}
 
@@ -18,14 +15,14 @@ module _ {A : Type 0} (f : A → ℕ) where
   sent_refusal a bytes = record { number = refl; place = refl; writes = refl }
 
   module _ {room n : ℕ} (w : List A) {bytes : List ℕ} where
-    pub sent_short : room < n → Leaves (sent f (in_room room n w)) bytes (Room n) bytes
+    pub sent_short : room < n → Leaves (sent f (in_room room n w)) bytes (Err (R.Room n)) bytes
     sent_short h =
-        let e : refusal (Room n) ≡ in_room room n w = if_yes (lt room n) _ h refl in
-        rw (sym e) (sent_refusal (Room n) bytes)
+        let e : refusal (Err (R.Room n)) ≡ in_room room n w = if_yes (lt room n) _ h refl in
+        rw (sym e) (sent_refusal (Err (R.Room n)) bytes)
 
-    pub sent_done : {after : List ℕ} → n ≤ room → after ≡ laid f w bytes → Leaves (sent f (in_room room n w)) bytes (Done n) after
+    pub sent_done : {after : List ℕ} → n ≤ room → after ≡ laid f w bytes → Leaves (sent f (in_room room n w)) bytes (Ok n) after
     sent_done h q =
-        let e : left (Done n) w ≡ in_room room n w = if_no (lt room n) _ h refl in
+        let e : left (Ok n) w ≡ in_room room n w = if_no (lt room n) _ h refl in
         rw (sym e) (record { number = refl; place = refl; writes = q ∙ rw (length-spread f w) refl })
 
 -- ---- the answer as one number

@@ -1,23 +1,23 @@
 -- How the code meets analyse: the times that it holds of a netlist that was judged, their slacks, and what it leaves.
-use Rattle.std.specs.Prelude.{◌≡◌, refl, List, ◌++◌, ℕ, ◌<◌, ℤ, pos, length, get_or, take, drop}
-use Rattle.std.proofs.Common.{sym, ap, ◌∙◌, arith, length-take-le, take_at}
+use Rattle.std.specs.Prelude.{◌≡◌, refl, List, ◌++◌, ℕ, ◌<◌, ℤ, pos, length, get_or, take, drop, Ok, Err}
+use Rattle.std.proofs.Common.{sym, ap, ◌∙◌, arith, length-take, length-take-le, take_at}
 use Rattle.whole.specs.Whole.{whole}
 use Rattle.circuit.proofs.ListLaws.{length-tabulate, get_or-tabulate}
 use Rattle.circuit.specs.Netlist.{Netlist, parts}
 use Rattle.circuit.specs.Times.{arrivals, requireds, slack_at, slacks}
-use Rattle.circuit.proofs.TimesLaws.{length-arrivals}
+use Rattle.circuit.proofs.TimesLaws.{length-arrivals, length-requireds}
 use Rattle.circuit.proofs.ClockLaws.{clock}
 use Rattle.circuit.proofs.SafeLaws.{slack_range}
 use Rattle.timing.specs.Ready.{Ready, Gauged, Narrow}
 use Rattle.timing.specs.Bounds.{times_gauged}
 use Rattle.rounds.specs.Budgets.{given_ready}
-use Rattle.netlists.specs.declared.Verdict.{Verdict}
-use Rattle.netlists.specs.declared.Verdict.TheVariants as J
-use Rattle.netlists.specs.Judge.{board_of}
-use Rattle.netlists.specs.Held.{Arrays, BoardIn, Judges}
-use Rattle.hozbantir.specs.declared.answers.Answer.{Answer}
-use Rattle.hozbantir.specs.declared.answers.Answer.TheVariants.{Done}
-use Rattle.hozbantir.specs.Answers.{number_of, place_of, refusal, in_room, on_verdict}
+use Rattle.netlists.specs.declared.Extent.{Extent}
+use Rattle.netlists.specs.declared.Fault.{Fault}
+use Rattle.netlists.specs.declared.Decoded.{Decoded}
+use Rattle.netlists.specs.Judge.{net_on, board_of}
+use Rattle.netlists.specs.Held.{BoardIn, Judges}
+use Rattle.hozbantir.specs.declared.answers.Refusal.TheVariants as R
+use Rattle.hozbantir.specs.Answers.{Answer, number_of, place_of, refusal, in_room}
 use Rattle.hozbantir.proofs.AnswerLaws.{Refused, unless_refused, unless_done}
 use Rattle.hozbantir.specs.Calls.{taken_of, analysis_on, analysis_of}
 use Rattle.hozbantir.proofs.CallLaws.{taken_refused, taken_done}
@@ -64,15 +64,15 @@ module _ {n : Netlist} {b : List ℤ} (g : Taken n b) where
 
 -- ---- the netlist file
 
-module _ {s : List ℕ} {v : Verdict} {a : Arrays} (j : Judges s v a) {arr req : List ℤ} where
-  pub clocked_not : {r : Answer} → ((n m : ℕ) → v ≡ J.Good n m → ⊥) → r ≡ on_verdict v (Done 0) → Clocked s r arr req
-  clocked_not h e = let (f, g) = taken_refused j h e in record { answer = f; held = λ {n} d. absurd (g n d) }
+module _ {s : List ℕ} {a : Decoded} {arr req : List ℤ} where
+  pub clocked_not : {f : Fault} → Judges s (Err f) a → Clocked s (Err (R.Netlist f)) arr req
+  clocked_not j = let (q, g) = taken_refused j in record { answer = q; held = λ {n} d. absurd (g n d) }
 
-  pub clocked_good : {n m : ℕ} → v ≡ J.Good n m → AtBase (net_in n m a) (take n a.bs) (take n arr) (take n req) → Clocked s (Done n) arr req
-  clocked_good {n} {m} e t = record { answer = taken_done j e; held = λ {n = k} d. rw (sym (ap place_of d)) (rw (b.kinds, b.times, b.froms, b.tos, b.bases) at t) }
+  pub clocked_good : {e : Extent} → Judges s (Ok e) a → AtBase (net_in e a) (take e.components a.bases) (take e.components arr) (take e.components req) → Clocked s (Ok e.components) arr req
+  clocked_good {e} j t = record { answer = taken_done j; held = λ {n = k} d. rw (sym (ap place_of d)) (rw (b.kinds, b.times, b.froms, b.tos, b.bases) at t) }
     where
-      b : BoardIn (board_of s) n m a
-      b = rw e at j.decodes
+      b : BoardIn (board_of s) e a
+      b = j.decodes
 
 -- ---- the slacks
 
@@ -84,24 +84,28 @@ module _ {s : List ℕ} {r : Answer} {arr req : List ℤ} (t : Clocked s r arr r
   unfolding analysis_of
   analysis_refused room h = rw (sym t.answer) (unless_refused r _ h)
 
-  module _ {n : ℕ} (e : r ≡ Done n) where
-    abbrev done : taken_of s ≡ Done n
+  module _ {n : ℕ} (e : r ≡ Ok n) where
+    abbrev done : taken_of s ≡ Ok n
     done = sym t.answer ∙ e
 
     count : n ≡ length (board_of s).kinds
     count = ap place_of (sym done ∙ taken_count s done)
 
-    pub clocked_paired : length arr ≡ 1024 → length req ≡ 1024 → Paired n arr req
-    clocked_paired f g =
+    pub clocked_paired : Paired n arr req
+    clocked_paired =
         let taken = said_taken s done in
-        let few = taken.accepted.judged.few in
+        let h = t.held e in
         record {
-          gauged = timed_gauged taken (t.held e);
-          narrow = timed_narrow taken (t.held e);
-          arrs_all = omega (arith, count);
-          reqs_all = omega (arith, count);
+          gauged = timed_gauged taken h;
+          narrow = timed_narrow taken h;
+          arrs_all = omega (arith, length-take n arr, ap length h.arrived, length-arrivals (net_on (board_of s)) (board_of s).bases, count);
+          reqs_all = omega (arith, length-take n req, ap length h.due, length-requireds (net_on (board_of s)) (board_of s).bases, count);
         }
 
     pub analysis_done : (room : ℕ) → analysis_of s room ≡ in_room room n (slacks_by (take n arr) (take n req))
     unfolding analysis_of analysis_on
     analysis_done room = unless_done (taken_of s) _ (ap number_of done) ∙ rw (sym count, timed_slacks (said_taken s done) (t.held e))
+
+    -- the same, counting what is in front
+    pub analysis_by : (room : ℕ) → analysis_of s room ≡ in_room room (length (take n arr)) (slacks_by (take n arr) (take n req))
+    analysis_by room = analysis_done room ∙ ap (λ k. in_room room k (slacks_by (take n arr) (take n req))) (sym (length-take-le n arr clocked_paired.arrs_all))

@@ -1,6 +1,6 @@
 -- The demands of the bench, said of the calls: of the netlist file s, of the result file q, and of what the calls leave. They are proved in the
 -- files named `..Laws`; the definitions that they speak of are those of the calls.
-use Rattle.std.specs.Prelude.{◌≡◌, Bool, List, ℕ, ◌+◌, ◌/◌, ◌<◌, ◌≤◌, ℤ, length, get_or}
+use Rattle.std.specs.Prelude.{◌≡◌, Bool, List, ℕ, ◌+◌, ◌/◌, ◌<◌, ◌≤◌, ℤ, length, get_or, Result, Ok, Err}
 use Rattle.whole.specs.Whole.{up}
 use Rattle.circuit.specs.Circuit.{Circuit, Path, Late, Share}
 use Rattle.circuit.specs.Lists.{at}
@@ -9,12 +9,11 @@ use Rattle.circuit.specs.Budget.{to_serve, start_in, rounds_from, Budgeted, budg
 use Rattle.circuit.specs.RoundsEnd.{RoundsEnd}
 use Rattle.circuit.specs.Demand.{Demand3}
 use Rattle.netlists.specs.Judge.{net_on, board_of}
-use Rattle.results.specs.declared.Told.{Told}
-use Rattle.results.specs.declared.Told.TheVariants as T
-use Rattle.results.specs.Result.{told_of}
-use Rattle.hozbantir.specs.declared.answers.Answer.{Answer}
-use Rattle.hozbantir.specs.declared.answers.Answer.TheVariants as A
-use Rattle.hozbantir.specs.Answers.{number_of}
+use Rattle.results.specs.declared.Summary.{Summary}
+use Rattle.results.specs.declared.Misfit.{Misfit}
+use Rattle.results.specs.Result.{says, told_of}
+use Rattle.hozbantir.specs.declared.answers.Refusal.TheVariants as R
+use Rattle.hozbantir.specs.Answers.{Answer, number_of}
 use Rattle.hozbantir.specs.Calls.{said_of, ReadsBack}
 
 -- ---- what the files say
@@ -33,7 +32,7 @@ abbrev pub served_in : List ℕ → ℕ → Bool
 served_in s = serves (netlist_in s)
 
 -- how the result q is judged against it, with what its summary says; and the increment that it says of component x
-abbrev pub summary_in : (netlist result : List ℕ) → Told
+abbrev pub summary_in : (netlist result : List ℕ) → Result Summary Misfit
 summary_in s q = told_of q (served_of (board_of s).kinds) (board_of s).bases
 
 abbrev pub increment_in : (netlist result : List ℕ) → ℕ → ℕ
@@ -48,7 +47,7 @@ increment_in s q x = get_or (said_of s q) x 0
 pub record Even (s q : List ℕ) : Type 0 where
   pub share : ℕ
   pub rounds : ℕ
-  pub summary : summary_in s q ≡ T.Result 1 share rounds
+  pub summary : summary_in s q ≡ Ok (says 1 share rounds)
   pub meets : Demand3 (circuit_in s) (served_in s) (base_in s) share (increment_in s q)
 
 -- ---- no run stalls
@@ -67,7 +66,7 @@ pub record ToldRight (m : ℕ) (s q : List ℕ) : Type 0 where
   pub rounds : ℕ
   pub increments : List ℕ
   pub budget : budget_of m (netlist_in s) (board_of s).bases ≡ Budgeted share rounds increments
-  pub summary : summary_in s q ≡ T.Result m share rounds
+  pub summary : summary_in s q ≡ Ok (says m share rounds)
   pub said : said_of s q ≡ increments
   pub rounds_are : rounds ≡ rounds_from (netlist_in s) (start_in m (netlist_in s) (board_of s).bases)
   pub rounds_few : rounds ≤ to_serve (netlist_in s)
@@ -83,7 +82,7 @@ pub record BoundOf (s q : List ℕ) (x bound : ℕ) : Type 0 where
 -- Demand 2: "A written result reads back to base plus increment however often it is read". Every read back of q, in a buffer with room for one number for
 -- each component, succeeds and gives these, whatever the buffer held.
 pub record Reads (s q : List ℕ) (r : Answer) (after : List ℕ) : Type 0 where
-  pub accepted : r ≡ A.Done (parts (netlist_in s))
+  pub accepted : r ≡ Ok (parts (netlist_in s))
   pub bounds : (x : ℕ) → x < parts (netlist_in s) → BoundOf s q x (get_or after x 0)
 
 pub record ReadsAlways (s q : List ℕ) : Type 0 where
@@ -93,8 +92,8 @@ pub record ReadsAlways (s q : List ℕ) : Type 0 where
 
 -- LATE: "an output has negative slack at base delays" (01, "Refusal numbers"). Said of paths: exactly if some path is late at base delays.
 pub record LateExactly (s : List ℕ) (r : Answer) : Type 0 where
-  pub only : {x : ℕ} → r ≡ A.Late x → (p : Path (circuit_in s).net) × Late (circuit_in s) (base_in s) p
-  pub holds : (p : Path (circuit_in s).net) → Late (circuit_in s) (base_in s) p → (x : ℕ) × (r ≡ A.Late x)
+  pub only : {x : ℕ} → r ≡ Err (R.Late x) → (p : Path (circuit_in s).net) × Late (circuit_in s) (base_in s) p
+  pub holds : (p : Path (circuit_in s).net) → Late (circuit_in s) (base_in s) p → (x : ℕ) × (r ≡ Err (R.Late x))
 
 -- ---- number 9
 

@@ -3,8 +3,7 @@ use Rattle.std.specs.Prelude.{◌≡◌, List, [], ◌∷◌, ◌++◌, ℕ, ◌
 use Rattle.std.specs.Int.{w32}
 use Rattle.std.proofs.Common.{of_z}
 use Rattle.whole.specs.Bytes.{bytes_of}
-use Rattle.hozbantir.specs.declared.answers.Answer.{Answer}
-use Rattle.hozbantir.specs.Answers.{number_of, place_of, Left}
+use Rattle.hozbantir.specs.Answers.{Answer, number_of, place_of, Left}
 use Rattle.hozbantir.specs.Calls.{analysis_of, budget_for, read_back_of}
 
 -- "a call returns one unsigned 64-bit number, the answer's number times 4,294,967,296 plus its place"

@@ -1,11 +1,10 @@
 -- How the code meets read back: what it holds of a netlist and a result that were judged, and what it leaves.
-use Rattle.std.specs.Prelude.{◌≡◌, List, ℕ, ◌≤◌, ℤ, length, take}
+use Rattle.std.specs.Prelude.{◌≡◌, List, ℕ, ◌≤◌, ℤ, length, take, Ok}
 use Rattle.circuit.specs.Netlist.{served_of}
 use Rattle.netlists.specs.Judge.{board_of}
 use Rattle.results.specs.Result.{increments_of}
-use Rattle.results.specs.Columns.{Columns, Bases, Increments}
-use Rattle.hozbantir.specs.declared.answers.Answer.{Answer}
-use Rattle.hozbantir.specs.declared.answers.Answer.TheVariants.{Done}
+use Rattle.results.specs.Columns.{Aligned, Bases, Increments}
+use Rattle.hozbantir.specs.Answers.{Answer}
 use Rattle.hozbantir.specs.Calls.{result_on, both_of, said_of}
 
 -- ---- the result
@@ -14,15 +13,7 @@ use Rattle.hozbantir.specs.Calls.{result_on, both_of, said_of}
 pub record Listened (ks : List ℕ) (b : List ℤ) (q : List ℕ) (r : Answer) (sv incs : List ℕ) : Type 0 where
   pub answer : r ≡ result_on ks b q
   pub marks : sv ≡ served_of ks
-  pub says : {n : ℕ} → r ≡ Done n → incs ≡ increments_of q (served_of ks) b
-
--- n places of each of four arrays
-pub record Fronts (n kinds bases marks incs : ℕ) : Type 0 where
-  pub few : n ≤ 1024
-  pub kinds_all : n ≤ kinds
-  pub bases_all : n ≤ bases
-  pub marks_all : n ≤ marks
-  pub incs_all : n ≤ incs
+  pub says : {n : ℕ} → r ≡ Ok n → incs ≡ increments_of q (served_of ks) b
 
 -- ---- netlist and result
 
@@ -34,13 +25,13 @@ pub record ToldIn (s q : List ℕ) (n : ℕ) (bs : List ℤ) (sv incs : List ℕ
 
 pub record Both (s q : List ℕ) (r : Answer) (bs : List ℤ) (sv incs : List ℕ) : Type 0 where
   pub answer : r ≡ both_of s q
-  pub held : {n : ℕ} → r ≡ Done n → ToldIn s q n bs sv incs
+  pub held : {n : ℕ} → r ≡ Ok n → ToldIn s q n bs sv incs
 
 -- ---- the bounds
 
 -- the first n places of marks, base delays and increments
 pub record Listed (n : ℕ) (sv : List ℕ) (bs : List ℤ) (incs : List ℕ) : Type 0 where
-  pub columns : Columns (take n sv) (take n bs) (take n incs)
+  pub aligned : Aligned (take n sv) (take n bs) (take n incs)
   pub bases : Bases (take n bs)
   pub increments : Increments (take n incs)
   pub marks_all : n ≤ length sv

@@ -1,74 +1,101 @@
 // What a call answers.
-ghost use Rattle.std.specs.Prelude.{◌≡◌};
-ghost use Rattle.hozbantir.specs.declared.answers.Answer.TheVariants.{Done};
-ghost use Rattle.hozbantir.specs.Answers.{number_of, place_of, on_verdict};
+ghost use Rattle.std.specs.Prelude.{◌≡◌, ◌<◌, ◌≤◌, OnOk, IfErr};
+ghost use Rattle.hozbantir.specs.declared.answers.Refusal.TheVariants.{Netlist, Late, Room, Result};
+ghost use Rattle.hozbantir.specs.Answers.{number_for, place_for, number_of, place_of};
 
-use netlists::Verdict;
+use netlists::Fault;
+use results::Misfit;
 
-// What a call answers: success, with how many numbers or bytes it wrote, or one of document 01's refusals, with its place.
-#[derive(Clone, Copy)]
-pub enum Answer {
-    Done(usize),
+// Why a call wrote nothing. What the reader of netlists found stands in it as it was said.
+#[derive(Clone, Copy, Debug, PartialEq, Eq)]
+pub enum Refusal {
     Mode,
-    Broken(usize),
-    Tag(usize),
-    Size(usize),
-    Field(usize),
-    Wiring(usize),
-    Ends(usize),
+    Netlist(Fault),
     Late(usize),
     Room(usize),
     Result(usize),
 }
 
-// The refusals of a netlist, which every call gives; of a netlist that is taken, nothing written.
-pub fn refused(v: Verdict) -> Answer
-    ensures { result ≡ on_verdict v (Done 0) }
-{
-    match v {
-        Verdict::Good(_, _) => Answer::Done(0),
-        Verdict::Broken(at) => Answer::Broken(at),
-        Verdict::Tag(at) => Answer::Tag(at),
-        Verdict::Size(at) => Answer::Size(at),
-        Verdict::Field(at) => Answer::Field(at),
-        Verdict::Wiring(at) => Answer::Wiring(at),
-        Verdict::Ends(x) => Answer::Ends(x),
+// How many numbers or bytes a call wrote, or why it wrote none.
+pub type Answer = Result<usize, Refusal>;
+
+impl From<Fault> for Refusal {
+    ghost from_gives = { λ fault r. r ≡ Netlist fault };
+
+    fn from(fault: Fault) -> Refusal {
+        Refusal::Netlist(fault)
     }
 }
 
-// The number of an answer, and its place. 9 is no answer's.
-pub fn number(a: Answer) -> u32
-    ensures { result ≡ number_of a }
-{
-    match a {
-        Answer::Done(_) => 0,
-        Answer::Mode => 1,
-        Answer::Broken(_) => 2,
-        Answer::Tag(_) => 3,
-        Answer::Size(_) => 4,
-        Answer::Field(_) => 5,
-        Answer::Wiring(_) => 6,
-        Answer::Ends(_) => 7,
-        Answer::Late(_) => 8,
-        Answer::Room(_) => 10,
-        Answer::Result(_) => 11,
+impl From<rounds::Late> for Refusal {
+    ghost from_gives = { λ late r. r ≡ Late late.0 };
+
+    fn from(late: rounds::Late) -> Refusal {
+        Refusal::Late(late.0)
     }
 }
 
-pub fn place(a: Answer) -> usize
-    ensures { result ≡ place_of a }
-{
-    match a {
-        Answer::Done(n) => n,
-        Answer::Mode => 0,
-        Answer::Broken(at) => at,
-        Answer::Tag(at) => at,
-        Answer::Size(at) => at,
-        Answer::Field(at) => at,
-        Answer::Wiring(at) => at,
-        Answer::Ends(x) => x,
-        Answer::Late(x) => x,
-        Answer::Room(n) => n,
-        Answer::Result(at) => at,
+impl From<Misfit> for Refusal {
+    ghost from_gives = { λ misfit r. r ≡ Result misfit.0 };
+
+    fn from(misfit: Misfit) -> Refusal {
+        Refusal::Result(misfit.0)
     }
+}
+
+impl Refusal {
+    // Its number. 9 is no refusal's.
+    pub fn number(self) -> u32
+        ensures { result ≡ number_for self }
+    {
+        match self {
+            Refusal::Mode => 1,
+            Refusal::Netlist(fault) => fault.number(),
+            Refusal::Late(_) => 8,
+            Refusal::Room(_) => 10,
+            Refusal::Result(_) => 11,
+        }
+    }
+
+    pub fn place(self) -> usize
+        ensures { result ≡ place_for self }
+    {
+        match self {
+            Refusal::Mode => 0,
+            Refusal::Netlist(fault) => fault.place(),
+            Refusal::Late(x) => x,
+            Refusal::Room(n) => n,
+            Refusal::Result(at) => at,
+        }
+    }
+}
+
+// The number of an answer, which is 0 of a success, and its place.
+pub fn number(answer: Answer) -> u32
+    ensures { result ≡ number_of answer }
+{
+    match answer {
+        Ok(_) => 0,
+        Err(refusal) => refusal.number(),
+    }
+}
+
+pub fn place(answer: Answer) -> usize
+    ensures { result ≡ place_of answer }
+{
+    match answer {
+        Ok(n) => n,
+        Err(refusal) => refusal.place(),
+    }
+}
+
+// Room for what is needed, or how much that is.
+pub fn check_room(room: usize, needed: usize) -> Result<(), Refusal>
+    ensures fits { OnOk result (needed ≤ room) }
+    ensures short { IfErr result (λ r. (room < needed) × (r ≡ Room needed)) }
+{
+    if room < needed {
+        return Err(Refusal::Room(needed));
+    }
+    Ok(())
 }

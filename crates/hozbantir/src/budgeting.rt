@@ -1,154 +1,107 @@
 // Budget: the result of a netlist in a mode, with an increment for each net.
-ghost use Rattle.std.specs.Prelude.{◌≡◌, ◌≤◌, length, take};
-ghost use Rattle.circuit.specs.Netlist.{netlist};
-ghost use Rattle.netlists.specs.Held.{arrays, LongParts, LongWires};
-ghost use Rattle.rounds.specs.Round.{Desk};
+ghost use Rattle.std.specs.Prelude.{◌≡◌, ◌≤◌, length};
+ghost use Rattle.circuit.specs.Columns.{netlist_of};
 ghost use Rattle.results.specs.Result.{needed};
 ghost use Rattle.hozbantir.specs.Answers.{in_room, Leaves};
 ghost use Rattle.hozbantir.specs.Calls.{budget_on, Budgets};
-ghost use Rattle.hozbantir.specs.Taken.{Taken, net_in, Filled};
+ghost use Rattle.hozbantir.specs.Taken.{Taken};
 ghost use Rattle.hozbantir.specs.Budgeting.{Writes, written};
 
-use crate::answers::{Answer, refused};
-use netlists::Verdict;
-use rounds::Outcome;
+use crate::answers::{Answer, Refusal, check_room};
+use circuit::Circuit;
+use netlists::Decoded;
+use results::{Columns, Summary};
+use rounds::{Budget, Case, Work};
 
-// The result of a budget, if the buffer has room.
+// The result of a budget, if the buffer has room. Its increments are worked out here, so that here is where there are `Columns` to lend. Mode and
+// rounds fit their types by `Writes`: `try_from` would give a `Result`.
 fn write_in(
     mode: u32,
-    share: u32,
-    count: usize,
+    budget: Budget,
     out: &mut [u8],
-    incs: &mut [u32],
     finals: &[i32],
     served: &[u8],
     bases: &[i32],
 ) -> Answer
-    requires { Writes mode count served.now bases.now finals.now incs.old }
-    ensures { Leaves (in_room (length out.old) (needed served.now) (written mode share count served.now bases.now finals.now)) out.old result out.new }
+    requires { Writes mode budget.rounds served.now bases.now finals.now }
+    ensures { Leaves (in_room (length out.old) (needed served.now) (written mode budget.share budget.rounds served.now bases.now finals.now)) out.old result out.new }
 {
     let bytes = results::needed_bytes(served);
-    if out.len() < bytes {
-        return Answer::Room(bytes);
-    }
-    rounds::increments_in(incs, finals, bases);
-    results::write(out, mode as u8, share, count as u16, served, bases, incs);
-    Answer::Done(bytes)
+    check_room(out.len(), bytes)?;
+    let mut incs = [0u32; 1024];
+    let increments = &mut incs[..served.len()];
+    rounds::increments_in(increments, finals, bases);
+    let summary = Summary {
+        mode: mode as u8,
+        share: budget.share,
+        rounds: budget.rounds as u16,
+    };
+    results::write(
+        out,
+        summary,
+        Columns {
+            served,
+            bases,
+            increments,
+        },
+    );
+    Ok(bytes)
 }
 
-// The budget of a netlist, worked out in arrays that may hold anything before.
+// The budget of a circuit that was taken, with arrays for the rounds. There is no heap: an array has room for the most components that a netlist
+// may have, here and in the other calls, and its front is lent. The work is taken apart at the end, since no slice of a struct with a ghost field can be
+// lent on from it.
 fn budget_on(
     mode: u32,
     out: &mut [u8],
-    d: &mut [i32],
-    arr: &mut [i64],
-    req: &mut [i64],
-    seg: &mut [u16],
     served: &mut [u8],
-    incs: &mut [u32],
+    circuit: Circuit<'_>,
     bases: &[i32],
-    kinds: &[u8],
-    times: &[i32],
-    from: &[u16],
-    to: &[u16],
 ) -> Answer
-    requires { Taken (netlist kinds.now times.now from.now to.now) bases.now × (mode ≤ 1) × (length d.old ≡ length kinds.now) × (length incs.old ≡ length kinds.now) × Desk (length kinds.now) (length served.old) (length arr.old) (length req.old) (length seg.old) }
-    ensures { Leaves (budget_on mode (netlist kinds.now times.now from.now to.now) bases.now (length out.old)) out.old result out.new }
+    requires { Taken (netlist_of circuit) bases.now × (mode ≤ 1) × (length served.old ≡ length circuit.kinds.now) }
+    ensures { Leaves (budget_on mode (netlist_of circuit.entry) bases.now (length out.old)) out.old result out.new }
 {
-    marks::fill_served(served, kinds);
-    match rounds::budget_in(
-        mode, d, arr, req, seg, bases, served, kinds, times, from, to,
-    ) {
-        Outcome::Late(x) => Answer::Late(x),
-        Outcome::Budget { share, rounds } => {
-            write_in(mode, share, rounds, out, incs, d, served, bases)
-        }
-    }
-}
-
-// The same on arrays, of which the netlist fills n and m places, with arrays for the rounds.
-fn budget_in(
-    mode: u32,
-    n: usize,
-    m: usize,
-    out: &mut [u8],
-    served: &mut [u8],
-    bases: &[i32],
-    kinds: &[u8],
-    times: &[i32],
-    from: &[u16],
-    to: &[u16],
-) -> Answer
-    requires { Filled n m (arrays kinds.now bases.now times.now from.now to.now) × (mode ≤ 1) × (length served.old ≡ 1024) }
-    ensures { Leaves (budget_on mode (net_in n m (arrays kinds.now bases.now times.now from.now to.now)) (take n bases.now) (length out.old)) out.old result out.new }
-{
-    let mut d = [0i32; 1024];
-    let mut arr = [0i64; 1024];
-    let mut req = [0i64; 1024];
-    let mut seg = [0u16; 2049];
-    let mut incs = [0u32; 1024];
-    budget_on(
-        mode,
-        out,
-        &mut d[..n],
-        &mut arr[..n],
-        &mut req[..n],
-        &mut seg[..2 * n + 1],
-        &mut served[..n],
-        &mut incs[..n],
-        &bases[..n],
-        &kinds[..n],
-        &times[..n],
-        &from[..m],
-        &to[..m],
-    )
-}
-
-// The same on the netlist file, with arrays to decode it into. The marks of who is served are not in use while the netlist is judged, so that
-// ENDS works in them.
-fn budget_with(
-    mode: u32,
-    netlist: &[u8],
-    out: &mut [u8],
-    served: &mut [u8],
-    kinds: &mut [u8],
-    bases: &mut [i32],
-    times: &mut [i32],
-    from: &mut [u16],
-    to: &mut [u16],
-) -> Answer
-    requires { LongParts kinds.old bases.old times.old × LongWires from.old to.old × (length served.old ≡ 1024) }
-    ensures { Budgets mode netlist.now out.old result out.new }
-{
-    if 1 < mode {
-        return Answer::Mode;
-    }
-    let v = netlists::read_netlist(netlist, kinds, bases, times, from, to, served);
-    let Verdict::Good(n, m) = v else {
-        return refused(v);
+    let n = circuit.kinds.len();
+    let mut delays = [0i32; 1024];
+    let mut arrivals = [0i64; 1024];
+    let mut required = [0i64; 1024];
+    let mut segment = [0u16; 2049];
+    marks::fill_served(served, circuit.kinds);
+    let mut work = Work {
+        delays: &mut delays[..n],
+        arrivals: &mut arrivals[..n],
+        required: &mut required[..n],
+        segment: &mut segment[..2 * n + 1],
     };
-    budget_in(mode, n, m, out, served, bases, kinds, times, from, to)
+    let case = Case {
+        circuit,
+        base: bases,
+        served,
+    };
+    let budget = rounds::budget_in(mode, &mut work, case)?;
+    let Work { delays: finals, .. } = work;
+    write_in(mode, budget, out, finals, served, bases)
 }
 
-// Writes the result of the netlist in a mode.
+// Writes the result of the netlist in a mode, which is a number, as C passes it: each has a budget by the definition, and this is the one test
+// which of them are modes. The marks of who is served are not in use while the netlist is judged, so that its ends are found
+// in them.
+#[tactic(auto, using(crate::proofs::TakenLaws::good_filled))]
 pub fn budget(mode: u32, netlist: &[u8], res: &mut [u8]) -> Answer
     ensures { Budgets mode netlist.now res.old result res.new }
 {
+    if 1 < mode {
+        return Err(Refusal::Mode);
+    }
+    let mut decoded = Decoded::EMPTY;
     let mut served = [0u8; 1024];
-    let mut kinds = [0u8; 1024];
-    let mut bases = [0i32; 1024];
-    let mut times = [0i32; 1024];
-    let mut from = [0u16; 4096];
-    let mut to = [0u16; 4096];
-    budget_with(
+    let extent = netlists::read_netlist(netlist, &mut decoded, &mut served)?;
+    let marks = &mut served[..extent.components];
+    budget_on(
         mode,
-        netlist,
         res,
-        &mut served,
-        &mut kinds,
-        &mut bases,
-        &mut times,
-        &mut from,
-        &mut to,
+        marks,
+        decoded.circuit(extent),
+        decoded.bases(extent),
     )
 }

@@ -8,7 +8,7 @@ mod exports;
 mod reading;
 
 pub use analysis::analyse;
-pub use answers::{Answer, number, place};
+pub use answers::{Answer, Refusal, number, place};
 pub use budgeting::budget;
 pub use exports::{hozbantir_analyse, hozbantir_budget, hozbantir_read_back};
 pub use reading::read_back;

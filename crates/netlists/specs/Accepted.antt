@@ -1,5 +1,5 @@
 -- What an accepted netlist has, and that the place of every verdict is small.
-use Rattle.std.specs.Prelude.{◌≡◌, refl, ◌⊎◌, List, ℕ, ◌≤◌, ◌<◌, pos, get_or}
+use Rattle.std.specs.Prelude.{◌≡◌, refl, ◌⊎◌, List, ℕ, ◌≤◌, ◌<◌, pos, get_or, Ok, Err}
 use Rattle.std.proofs.Common.{ap, ◌∙◌, inl, inr, ⊎_elim, arith}
 use Rattle.std.proofs.Math.Decide.{ℕ_discrete}
 use Rattle.std.proofs.Math.ListN.{length, get_or-eq_default}
@@ -9,10 +9,11 @@ use Rattle.whole.specs.Pick.{lt, decide, if_cases}
 use Rattle.circuit.specs.Lists.{tabulate}
 use Rattle.circuit.proofs.ListLaws.{get_or-tabulate, lowest_first}
 use Rattle.circuit.specs.Netlist.{Wired, Sorted, Judged, Rising, Based}
-use Rattle.netlists.specs.declared.Verdict.{Verdict}
-use Rattle.netlists.specs.declared.Verdict.TheVariants.{Good, Broken, Tag, Size, Field, Wiring, Ends}
-use Rattle.netlists.specs.Judge.{Board, net_on, key, ends, faulty, lowest_fault, with_ends, board_of, records_of, judge_of, place_of}
-use Rattle.netlists.specs.BoardLaws.{Delay, Fine, Final}
+use Rattle.netlists.specs.declared.Extent.{Extent}
+use Rattle.netlists.specs.declared.Fault.{Fault}
+use Rattle.netlists.specs.declared.Fault.TheVariants.{Broken, Tag, Size, Field, Wiring, Ends}
+use Rattle.netlists.specs.Judge.{Verdict, Board, net_on, key, ends, faulty, lowest_fault, with_ends, board_of, records_of, judge_of, place_of}
+use Rattle.netlists.specs.BoardLaws.{Delay, Fine, Early, Final}
 use Rattle.netlists.specs.FuelLaws.{board_fine}
 use Rattle.netlists.specs.EndsLaws.{Ended, not_faulty, ends_none, ends_some}
 
@@ -105,44 +106,47 @@ module _ {b : Board} (fine : Fine b) (some : 0 < length b.kinds) where
 
 -- what a verdict says, with ENDS, of the board where the records ended
 abbrev Outcome : Board → Verdict → Type 0
-Outcome b (Good n m) = (n ≡ length b.kinds) × (m ≡ length b.froms) × (0 < n) × (length b.kinds ≤ lowest_fault b)
-Outcome b (Broken a) = a ≤ 61440
-Outcome b (Tag a) = a ≤ 61440
-Outcome b (Size a) = a ≤ 61440
-Outcome b (Field a) = a ≤ 61440
-Outcome b (Wiring a) = a ≤ 61440
-Outcome b (Ends x) = x < length b.kinds
+Outcome b (Ok e) = (e.components ≡ length b.kinds) × (e.connections ≡ length b.froms) × (0 < e.components) × (length b.kinds ≤ lowest_fault b)
+Outcome b (Err (Broken a)) = a ≤ 61440
+Outcome b (Err (Tag a)) = a ≤ 61440
+Outcome b (Err (Size a)) = a ≤ 61440
+Outcome b (Err (Field a)) = a ≤ 61440
+Outcome b (Err (Wiring a)) = a ≤ 61440
+Outcome b (Err (Ends x)) = x < length b.kinds
+
+early : (b : Board) (f : Fault) → Early f → Outcome b (Err f)
+early b (Broken a) h = h
+early b (Tag a) h = h
+early b (Size a) h = h
+early b (Field a) h = h
+early b (Wiring a) h = h
+early b (Ends x) h = absurd h
 
 outcome : (b : Board) (v : Verdict) → Final b v → Outcome b (with_ends b v)
-outcome b (Good n m) f = if_cases (Outcome b) _ _ _ (λ h. h) (λ h. (f.0, f.1, f.2, h))
-outcome b (Broken a) f = f
-outcome b (Tag a) f = f
-outcome b (Size a) f = f
-outcome b (Field a) f = f
-outcome b (Wiring a) f = f
-outcome b (Ends x) f = absurd f
+outcome b (Ok e) f = if_cases (Outcome b) _ _ _ (λ h. h) (λ h. (f.0, f.1, f.2, h))
+outcome b (Err e) f = early b e f
 
 judge_outcome : (s : List ℕ) → Outcome (board_of s) (judge_of s)
 unfolding judge_of
 judge_outcome s = outcome (board_of s) (records_of s) (board_fine s).1
 
--- what an accepted netlist of n components and m connections has
-pub record Accepted (s : List ℕ) (n m : ℕ) : Type 0 where
-  pub parts_are : n ≡ length (board_of s).kinds
-  pub wires_are : m ≡ length (board_of s).froms
+-- what an accepted netlist of this extent has
+pub record Accepted (s : List ℕ) (e : Extent) : Type 0 where
+  pub parts_are : e.components ≡ length (board_of s).kinds
+  pub wires_are : e.connections ≡ length (board_of s).froms
   pub judged : Judged (net_on (board_of s))
   pub rising : Rising (net_on (board_of s))
   pub based : Based (net_on (board_of s)) (board_of s).bases
-  pub known : (x : ℕ) → x < n → get_or (board_of s).kinds x 0 ≤ 2
-  pub inner : (x : ℕ) → x < n → get_or (board_of s).kinds x 0 ≡ 1 → get_or (board_of s).times x (pos 0) ≡ pos 0
+  pub known : (x : ℕ) → x < e.components → get_or (board_of s).kinds x 0 ≤ 2
+  pub inner : (x : ℕ) → x < e.components → get_or (board_of s).kinds x 0 ≡ 1 → get_or (board_of s).times x (pos 0) ≡ pos 0
 
-pub accepted : (s : List ℕ) {n m : ℕ} → judge_of s ≡ Good n m → Accepted s n m
-accepted s e =
+pub accepted : (s : List ℕ) {e : Extent} → judge_of s ≡ Ok e → Accepted s e
+accepted s q =
     let fine = (board_fine s).0 in
-    let (p, q, some, none) = rw e at (judge_outcome s) in
+    let (parts, wires, some, none) = rw q at (judge_outcome s) in
     record {
-      parts_are = p;
-      wires_are = q;
+      parts_are = parts;
+      wires_are = wires;
       judged = judged fine (omega arith) none;
       rising = rising fine (omega arith);
       based = based fine (omega arith);
@@ -151,13 +155,13 @@ accepted s e =
     }
 
 small : (b : Board) (v : Verdict) → length b.kinds ≤ 1024 → Outcome b v → place_of v < 65536
-small b (Good n m) h o = omega arith
-small b (Broken a) h o = omega arith
-small b (Tag a) h o = omega arith
-small b (Size a) h o = omega arith
-small b (Field a) h o = omega arith
-small b (Wiring a) h o = omega arith
-small b (Ends x) h o = omega arith
+small b (Ok e) h o = omega arith
+small b (Err (Broken a)) h o = omega arith
+small b (Err (Tag a)) h o = omega arith
+small b (Err (Size a)) h o = omega arith
+small b (Err (Field a)) h o = omega arith
+small b (Err (Wiring a)) h o = omega arith
+small b (Err (Ends x)) h o = omega arith
 
 -- whatever the file's length
 pub place_small : (s : List ℕ) → place_of (judge_of s) < 65536

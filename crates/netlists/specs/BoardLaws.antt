@@ -1,20 +1,18 @@
 -- What every board on the way has: each record that is taken keeps it.
-use Rattle.std.specs.Prelude.{◌≡◌, List, [], ◌∷◌, ◌++◌, ℕ, ◌+◌, ◌*◌, ◌≤◌, ◌<◌, ℤ, pos, get_or}
-use Rattle.std.proofs.Math.Path.{refl}
-use Rattle.std.proofs.Common.{sym, ◌∙◌, length-append}
+use Rattle.std.specs.Prelude.{◌≡◌, List, [], ◌∷◌, ◌++◌, ℕ, ◌+◌, ◌*◌, ◌≤◌, ◌<◌, ℤ, pos, get_or, Option, Some, None, Result, Ok, Err}
+use Rattle.std.proofs.Common.{refl, sym, ◌∙◌, length-append, arith}
 use Rattle.std.proofs.Math.Decide.{ℕ_discrete}
-use native.Mathlib.Omega.{arith}
 use Rattle.std.proofs.Math.ListN.{length, get_or-append}
 use Rattle.std.proofs.lemmas.List.{get_or_at}
 use Rattle.whole.specs.Range.{Within}
 use Rattle.whole.specs.Pick.{if_cases}
 use Rattle.whole.specs.Bytes.{number_at, signed_at}
-use Rattle.records.specs.declared.Found.{Found}
-use Rattle.records.specs.declared.Found.TheVariants as F
+use Rattle.records.specs.declared.Record.{Record}
+use Rattle.records.specs.declared.Broken as R
 use Rattle.records.specs.Record.{record_at, part_of}
-use Rattle.netlists.specs.declared.Verdict.{Verdict}
-use Rattle.netlists.specs.declared.Verdict.TheVariants.{Good, Broken, Tag, Size, Field, Wiring, Ends}
-use Rattle.netlists.specs.Judge.{Board, empty, with_component, key, with_connection, Turn, Go, Stop, on_component, on_connection, on_record, finish, on_found, step_of}
+use Rattle.netlists.specs.declared.Fault.{Fault}
+use Rattle.netlists.specs.declared.Fault.TheVariants.{Broken, Tag, Size, Field, Wiring, Ends}
+use Rattle.netlists.specs.Judge.{Verdict, Board, empty, with_component, key, with_connection, Turn, Go, Stop, on_component, on_connection, on_record, finish, on_found, step_of}
 use Rattle.netlists.specs.RuleLaws.{Wire, wiring_is, Fields, fields_is}
 use Rattle.records.specs.RecordLaws.{whole as record_whole, ended as record_ended, part_length}
 
@@ -133,15 +131,19 @@ module _ {b : Board} (fine : Fine b) {next : ℕ} (near : next ≤ b.at + 12) wh
 
 -- ---- one step
 
+-- no place is past all the records that there can be, and no record is refused for its ends
+abbrev pub Early : Fault → Type 0
+Early (Broken a) = a ≤ 61440
+Early (Tag a) = a ≤ 61440
+Early (Size a) = a ≤ 61440
+Early (Field a) = a ≤ 61440
+Early (Wiring a) = a ≤ 61440
+Early (Ends x) = ⊥
+
 -- what a verdict says of the board where it is reached
 abbrev pub Final : Board → Verdict → Type 0
-Final b (Good n m) = (n ≡ length b.kinds) × (m ≡ length b.froms) × (0 < n)
-Final b (Broken a) = a ≤ 61440
-Final b (Tag a) = a ≤ 61440
-Final b (Size a) = a ≤ 61440
-Final b (Field a) = a ≤ 61440
-Final b (Wiring a) = a ≤ 61440
-Final b (Ends x) = ⊥
+Final b (Ok e) = (e.components ≡ length b.kinds) × (e.connections ≡ length b.froms) × (0 < e.components)
+Final b (Err f) = Early f
 
 -- a step goes on to such a board, further on, or stops with what is final
 abbrev pub Next : Board → Turn → Type 0
@@ -149,7 +151,6 @@ Next b (Go c) = Fine c × (b.at < c.at)
 Next b (Stop v) = Final b v
 
 module _ (s : List ℕ) (b : Board) (fine : Fine b) where
-  -- no place is past all the records that there can be
   place : b.at ≤ 61440
   place = omega arith
 
@@ -183,10 +184,10 @@ module _ (s : List ℕ) (b : Board) (fine : Fine b) where
     unfolding on_record
     any tag = if_cases (Next b) _ _ _ (λ _. component) (λ _. if_cases (Next b) _ _ _ (λ _. connection) (λ _. place))
 
-  found : (f : Found) → record_at s b.at ≡ f → Next b (on_found s b f)
-  found F.End e = finished (record_ended s b.at e)
-  found F.Broken e = place
-  found (F.Record tag start len next) e = let w = record_whole s b.at e in let l = part_length s start len w.fits in any (part_of s start len) next (omega arith) tag
+  found : (f : Result (Option Record) R.Broken) → record_at s b.at ≡ f → Next b (on_found s b f)
+  found (Ok None) e = finished (record_ended s b.at e)
+  found (Err k) e = place
+  found (Ok (Some r)) e = let w = record_whole s b.at e in let l = part_length s r.start r.len w.fits in any (part_of s r.start r.len) r.next (omega arith) r.tag
 
   pub stepped : Next b (step_of s b)
   unfolding step_of

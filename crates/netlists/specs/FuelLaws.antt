@@ -1,8 +1,7 @@
 -- The file's length is fuel enough: what is read is the records front to back, up to the first that stops or to the file's end.
 use Rattle.std.specs.Prelude.{◌≡◌, refl, List, ℕ, zero, suc, ◌+◌, ◌≤◌, ◌<◌, length}
 use Rattle.std.proofs.Common.{ap, arith}
-use Rattle.netlists.specs.declared.Verdict.{Verdict}
-use Rattle.netlists.specs.Judge.{Board, empty, Turn, Go, Stop, finish, on_found, step_of, on_turn, read_from, records_of, board_of}
+use Rattle.netlists.specs.Judge.{Verdict, Board, empty, Turn, Go, Stop, finish, on_found, step_of, on_turn, read_from, records_of, board_of}
 use Rattle.records.specs.RecordLaws.{none_left}
 use Rattle.netlists.specs.BoardLaws.{Fine, fine_empty, Final, Next, stepped}
 

@@ -1,18 +1,45 @@
 -- The judge of netlist files (document 01, "The netlist and result files" and "Refusal numbers" 2 to 7): one step for one record, front to
 -- back, "the first faulty record deciding and 2 before 3, 4, 5, 6 within it; the empty netlist at the end; then 7". What the records say is
 -- kept on the way.
-use Rattle.std.specs.Prelude.{Bool, not, ◌&&◌, ◌||◌, List, [], ◌∷◌, ◌++◌, ℕ, zero, suc, ◌+◌, ◌*◌, eqb, ltb, leb, ℤ, pos, negsuc, length, get_or}
+use Rattle.std.specs.Prelude.{Bool, not, ◌&&◌, ◌||◌, List, [], ◌∷◌, ◌++◌, ℕ, zero, suc, ◌+◌, ◌*◌, eqb, ltb, leb, ℤ, pos, negsuc, length, get_or, Option, Some, None, Result, Ok, Err}
 use Rattle.std.specs.Int.Signed.{lt_z}
 use Rattle.whole.specs.Whole.{eq_z}
 use Rattle.whole.specs.Pick.{lt, eq, is, if?}
 use Rattle.whole.specs.Bytes.{number_at, signed_at}
 use Rattle.circuit.specs.Lists.{tabulate, lowest, count}
 use Rattle.circuit.specs.Netlist.{Netlist, netlist}
-use Rattle.records.specs.declared.Found.{Found}
-use Rattle.records.specs.declared.Found.TheVariants as F
+use Rattle.records.specs.declared.Record.{Record}
+use Rattle.records.specs.declared.Broken as R
 use Rattle.records.specs.Record.{record_at, part_of}
-use Rattle.netlists.specs.declared.Verdict.{Verdict}
-use Rattle.netlists.specs.declared.Verdict.TheVariants.{Good, Broken, Tag, Size, Field, Wiring, Ends}
+use Rattle.netlists.specs.declared.Extent.{Extent}
+use Rattle.netlists.specs.declared.Fault.{Fault}
+use Rattle.netlists.specs.declared.Fault.TheVariants.{Broken, Tag, Size, Field, Wiring, Ends}
+
+-- ---- how a netlist is judged
+
+-- taken, with the numbers of its components and connections, or refused, with the place
+abbrev pub Verdict : Type 0
+Verdict = Result Extent Fault
+
+abbrev pub good : (components connections : ℕ) → Verdict
+good n m = Ok (record { components = n; connections = m })
+
+-- the number of a refusal, and its place
+abbrev pub number_in : Fault → ℕ
+number_in (Broken a) = 2
+number_in (Tag a) = 3
+number_in (Size a) = 4
+number_in (Field a) = 5
+number_in (Wiring a) = 6
+number_in (Ends x) = 7
+
+abbrev pub place_in : Fault → ℕ
+place_in (Broken a) = a
+place_in (Tag a) = a
+place_in (Size a) = a
+place_in (Field a) = a
+place_in (Wiring a) = a
+place_in (Ends x) = x
 
 -- ---- what the records say
 
@@ -72,7 +99,7 @@ on_component p b next =
     (if? (lt (length b.kinds) 1024)
     (if? (is (fields_ok (get_or p 0 0) (number_at 4 p 1) (signed_at p 5)))
     (Go (with_component b next (get_or p 0 0) (number_at 4 p 1) (signed_at p 5)))
-    (Stop (Field b.at))) (Stop (Size b.at))) (Stop (Tag b.at))) (Stop (Tag b.at))
+    (Stop (Err (Field b.at)))) (Stop (Err (Size b.at)))) (Stop (Err (Tag b.at)))) (Stop (Err (Tag b.at)))
 
 -- A connection, "2 connection | 4 | from (2), to (2)": "wrong length" (TAG), "the 4,097th connection" (SIZE), WIRING.
 unfoldable pub on_connection : List ℕ → Board → ℕ → Turn
@@ -81,23 +108,23 @@ on_connection p b next =
     (if? (lt (length b.froms) 4096)
     (if? (is (wiring_ok (number_at 2 p 0) (number_at 2 p 2) (length b.kinds) b.least))
     (Go (with_connection b next (number_at 2 p 0) (number_at 2 p 2)))
-    (Stop (Wiring b.at))) (Stop (Size b.at))) (Stop (Tag b.at))
+    (Stop (Err (Wiring b.at)))) (Stop (Err (Size b.at)))) (Stop (Err (Tag b.at)))
 
 -- "unknown tag" is TAG, and "16 and 17 are unknown in a netlist"
 unfoldable pub on_record : ℕ → List ℕ → Board → ℕ → Turn
 on_record tag p b next =
     if? (eq tag 1) (on_component p b next)
     (if? (eq tag 2) (on_connection p b next)
-    (Stop (Tag b.at)))
+    (Stop (Err (Tag b.at))))
 
 -- "no component at the file's end" is SIZE, placed at the "file length"
 unfoldable pub finish : List ℕ → Board → Verdict
-finish s b = if? (eq (length b.kinds) 0) (Size (length s)) (Good (length b.kinds) (length b.froms))
+finish s b = if? (eq (length b.kinds) 0) (Err (Size (length s))) (good (length b.kinds) (length b.froms))
 
-abbrev pub on_found : List ℕ → Board → Found → Turn
-on_found s b F.End = Stop (finish s b)
-on_found s b F.Broken = Stop (Broken b.at)
-on_found s b (F.Record tag start len next) = on_record tag (part_of s start len) b next
+abbrev pub on_found : List ℕ → Board → Result (Option Record) R.Broken → Turn
+on_found s b (Ok None) = Stop (finish s b)
+on_found s b (Err e) = Stop (Err (Broken b.at))
+on_found s b (Ok (Some r)) = on_record r.tag (part_of s r.start r.len) b r.next
 
 unfoldable pub step_of : List ℕ → Board → Turn
 step_of s b = on_found s b (record_at s b.at)
@@ -138,13 +165,8 @@ unfoldable pub lowest_fault : Board → ℕ
 lowest_fault b = lowest (faulty b.kinds (tabulate (ends b.tos) (length b.kinds)) (tabulate (ends b.froms) (length b.kinds))) (length b.kinds)
 
 abbrev pub with_ends : Board → Verdict → Verdict
-with_ends b (Good n m) = if? (lt (lowest_fault b) (length b.kinds)) (Ends (lowest_fault b)) (Good n m)
-with_ends b (Broken a) = Broken a
-with_ends b (Tag a) = Tag a
-with_ends b (Size a) = Size a
-with_ends b (Field a) = Field a
-with_ends b (Wiring a) = Wiring a
-with_ends b (Ends x) = Ends x
+with_ends b (Ok e) = if? (lt (lowest_fault b) (length b.kinds)) (Err (Ends (lowest_fault b))) (Ok e)
+with_ends b (Err f) = Err f
 
 -- ---- the netlist
 
@@ -153,10 +175,5 @@ judge_of s = with_ends (board_of s) (records_of s)
 
 -- "Place": of a netlist that is taken, none
 abbrev pub place_of : Verdict → ℕ
-place_of (Good n m) = 0
-place_of (Broken a) = a
-place_of (Tag a) = a
-place_of (Size a) = a
-place_of (Field a) = a
-place_of (Wiring a) = a
-place_of (Ends x) = x
+place_of (Ok e) = 0
+place_of (Err f) = place_in f

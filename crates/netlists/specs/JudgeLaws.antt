@@ -1,92 +1,98 @@
 -- From the records and ENDS to the netlist.
-use Rattle.std.specs.Prelude.{◌≡◌, List, ℕ, length, take}
-use Rattle.std.proofs.Math.Path.{refl, ap}
-use Rattle.std.proofs.Common.{sym, ◌∙◌, arith}
-use Rattle.whole.specs.Pick.{if_cases}
+use Rattle.std.specs.Prelude.{◌≡◌, List, ℕ, ◌≤◌, length, take, Option, Some, None, Ok, Err}
+use Rattle.std.proofs.Common.{refl, ap, sym, ◌∙◌, arith}
+use Rattle.whole.specs.Pick.{if_yes, if_no}
+use Rattle.circuit.specs.Lists.{below}
+use Rattle.circuit.proofs.BelowLaws.{below_is, below_not}
 use Rattle.circuit.specs.Netlist.{Netlist, netlist, Judged, Rising, Based}
-use Rattle.netlists.specs.declared.Verdict.{Verdict}
-use Rattle.netlists.specs.declared.Verdict.TheVariants.{Good, Broken, Tag, Size, Field, Wiring, Ends}
-use Rattle.netlists.specs.Judge.{Board, lowest_fault, with_ends, board_of, judge_of}
-use Rattle.netlists.specs.Held.{Arrays, LongParts, LongWires, BoardIn, Decoded, Read, Judges}
-use Rattle.netlists.specs.Ends.{fault_of, ended_by, Endable}
-use Rattle.netlists.specs.BoardLaws.{Fine, Final}
+use Rattle.circuit.specs.declared.Circuit.{Circuit}
+use Rattle.netlists.specs.declared.Extent.{Extent}
+use Rattle.netlists.specs.declared.Fault.{Fault}
+use Rattle.netlists.specs.declared.Fault.TheVariants.{Ends}
+use Rattle.netlists.specs.declared.Decoded.{Decoded}
+use Rattle.netlists.specs.Judge.{lowest_fault, with_ends, board_of, judge_of}
+use Rattle.netlists.specs.Held.{Front, BoardIn, Read, Judges}
+use Rattle.netlists.specs.Ends.{Below, fault_of}
+use Rattle.netlists.specs.BoardLaws.{Final}
 use Rattle.netlists.specs.FuelLaws.{board_fine}
 use Rattle.netlists.specs.Accepted.{Accepted, accepted}
 
-module _ (b : Board) (a : Arrays) where
-  -- what ENDS asks of the arrays: the connections of a fine board are between its components
-  endable : (v : Verdict) → Fine b → LongParts a.ks a.bs a.tm → LongWires a.fs a.ts → Final b v → Decoded v b a → Endable v a.ks a.fs a.ts
-  endable (Good n m) fine l w f d = record {
-    parts = omega arith;
-    few = omega arith;
-    sources_all = omega arith;
-    targets_all = omega arith;
-    sources = rw (d.froms, f.0) (record { each = λ j h. (fine.wires j h).source });
-    targets = rw (d.tos, f.0) (record { each = λ j h. (fine.wires j (omega arith)).target });
-  }
-  endable (Broken p) fine l w f d = tt
-  endable (Tag p) fine l w f d = tt
-  endable (Size p) fine l w f d = tt
-  endable (Field p) fine l w f d = tt
-  endable (Wiring p) fine l w f d = tt
-  endable (Ends x) fine l w f d = tt
+-- ---- ENDS, and the verdict
 
-  -- ENDS over the arrays is ENDS over the board
-  ends_same : (v : Verdict) → Final b v → Decoded v b a → ended_by v a.ks a.fs a.ts ≡ with_ends b v
-  unfolding fault_of lowest_fault
-  ends_same (Good n m) f d = rw (d.kinds, d.froms, d.tos, f.0) refl
-  ends_same (Broken p) f d = refl
-  ends_same (Tag p) f d = refl
-  ends_same (Size p) f d = refl
-  ends_same (Field p) f d = refl
-  ends_same (Wiring p) f d = refl
-  ends_same (Ends x) f d = refl
+-- a refusal of its records is the netlist's
+pub read_refused : {s : List ℕ} {f : Fault} {a : Decoded} → Read s (Err f) a → Judges s (Err f) a
+unfolding judge_of
+read_refused {s} r = record { judged = ap (with_ends (board_of s)) r.judged; decodes = tt }
 
-  -- and leaves the board of a taken netlist in the arrays
-  ends_decoded : (v : Verdict) → Decoded v b a → Decoded (ended_by v a.ks a.fs a.ts) b a
-  ends_decoded (Good n m) d = if_cases (λ u. Decoded u b a) _ _ _ (λ h. tt) (λ h. d)
-  ends_decoded (Broken p) d = tt
-  ends_decoded (Tag p) d = tt
-  ends_decoded (Size p) d = tt
-  ends_decoded (Field p) d = tt
-  ends_decoded (Wiring p) d = tt
-  ends_decoded (Ends x) d = tt
+module _ {s : List ℕ} {e : Extent} {a : Decoded} (read : Read s (Ok e) a) where
+  final : Final (board_of s) (Ok e)
+  final = rw (← read.judged) at (board_fine s).1
 
-module _ {s : List ℕ} {v : Verdict} {a : Arrays} (read : Read s v a) where
-  final : Final (board_of s) v
-  final = rw read.judged (board_fine s).1
+  -- no more than the arrays have room for
+  pub read_few : e.components ≤ 1024
+  read_few = omega (arith, final.0, (board_fine s).0.few)
 
-  pub read_endable : LongParts a.ks a.bs a.tm → LongWires a.fs a.ts → Endable v a.ks a.fs a.ts
-  read_endable l w = endable (board_of s) a v (board_fine s).0 l w final read.decodes
+  pub read_fewer : e.connections ≤ 4096
+  read_fewer = omega (arith, final.1, (board_fine s).0.fewer)
 
-  pub read_judged : {r : Verdict} → r ≡ ended_by v a.ks a.fs a.ts → Judges s r a
-  unfolding judge_of
-  read_judged e = record {
-    judged = e ∙ ends_same (board_of s) a v final read.decodes ∙ ap (with_ends (board_of s)) read.judged;
-    decodes = rw e (ends_decoded (board_of s) a v read.decodes);
-  }
+  module _ {c : Circuit} (f : Front c e a) where
+    pub read_parts : length c.kinds.now ≡ e.components
+    read_parts = rw (f.kinds, read.decodes.kinds) (sym final.0)
+
+    -- what ENDS asks of the columns: the connections of a fine board are between its components
+    pub read_from : Below c.from.now (length c.kinds.now)
+    read_from = let fine = (board_fine s).0 in rw (f.from, read.decodes.froms, f.kinds, read.decodes.kinds) (record { each = λ j h. (fine.wires j h).source })
+
+    pub read_to : Below c.to.now (length c.kinds.now)
+    read_to = let fine = (board_fine s).0 in rw (f.to, read.decodes.tos, f.kinds, read.decodes.kinds) (record { each = λ j h. (fine.wires j (omega arith)).target })
+
+    -- ENDS over the columns is ENDS over the board
+    ends_same : fault_of c.kinds.now c.from.now c.to.now ≡ lowest_fault (board_of s)
+    unfolding fault_of lowest_fault
+    ends_same = rw (f.kinds, f.from, f.to, read.decodes.kinds, read.decodes.froms, read.decodes.tos) refl
+
+    module _ {r : Option ℕ} (found : r ≡ below (length c.kinds.now) (fault_of c.kinds.now c.from.now c.to.now)) where
+      -- what the search for a fault found, over the board
+      told : r ≡ below e.components (lowest_fault (board_of s))
+      told = found ∙ rw (read_parts, ends_same) refl
+
+      pub read_faulty : {x : ℕ} → r ≡ Some x → Judges s (Err (Ends x)) a
+      unfolding judge_of
+      read_faulty q =
+          let (p, h) = below_is e.components (lowest_fault (board_of s)) (sym q ∙ told) in
+          record { judged = rw (← read.judged) (if_yes _ _ (omega (arith, final.0)) (rw p refl)); decodes = tt }
+
+      pub read_sound : r ≡ None → Judges s (Ok e) a
+      unfolding judge_of
+      read_sound q =
+          let h = below_not e.components (lowest_fault (board_of s)) (sym q ∙ told) in
+          record { judged = rw (← read.judged) (if_no _ _ (omega (arith, final.0)) refl); decodes = read.decodes }
 
 -- ---- what the caller of a taken netlist has in the arrays
 
--- the netlist of n components and m connections at the front of the arrays
-abbrev pub net_at : (n m : ℕ) → Arrays → Netlist
-net_at n m a = netlist (take n a.ks) (take n a.tm) (take m a.fs) (take m a.ts)
+-- the netlist of this extent at the front of the arrays
+abbrev pub net_at : Extent → Decoded → Netlist
+net_at e a = netlist (take e.components a.kinds) (take e.components a.times) (take e.connections a.from) (take e.connections a.to)
 
-pub record Loaded (n m : ℕ) (a : Arrays) : Type 0 where
-  pub parts_are : length (take n a.ks) ≡ n
-  pub wires_are : length (take m a.fs) ≡ m
-  pub judged : Judged (net_at n m a)
-  pub rising : Rising (net_at n m a)
-  pub based : Based (net_at n m a) (take n a.bs)
+pub record Loaded (e : Extent) (a : Decoded) : Type 0 where
+  pub parts_few : e.components ≤ 1024
+  pub wires_few : e.connections ≤ 4096
+  pub parts_are : length (take e.components a.kinds) ≡ e.components
+  pub wires_are : length (take e.connections a.from) ≡ e.connections
+  pub judged : Judged (net_at e a)
+  pub rising : Rising (net_at e a)
+  pub based : Based (net_at e a) (take e.components a.bases)
 
-loads : (s : List ℕ) {n m : ℕ} {a : Arrays} → Accepted s n m → BoardIn (board_of s) n m a → Loaded n m a
-loads s e d = record {
-  parts_are = rw d.kinds (sym e.parts_are);
-  wires_are = rw d.froms (sym e.wires_are);
-  judged = rw (d.kinds, d.times, d.froms, d.tos) e.judged;
-  rising = rw (d.kinds, d.times, d.froms, d.tos) e.rising;
-  based = rw (d.kinds, d.times, d.froms, d.tos, d.bases) e.based;
+loads : (s : List ℕ) {e : Extent} {a : Decoded} → Accepted s e → BoardIn (board_of s) e a → Loaded e a
+loads s q d = record {
+  parts_few = omega (arith, q.parts_are, q.judged.few);
+  wires_few = omega (arith, q.wires_are, q.judged.wired.few);
+  parts_are = rw d.kinds (sym q.parts_are);
+  wires_are = rw d.froms (sym q.wires_are);
+  judged = rw (d.kinds, d.times, d.froms, d.tos) q.judged;
+  rising = rw (d.kinds, d.times, d.froms, d.tos) q.rising;
+  based = rw (d.kinds, d.times, d.froms, d.tos, d.bases) q.based;
 }
 
-pub loaded : {s : List ℕ} {v : Verdict} {a : Arrays} {n m : ℕ} → Judges s v a → v ≡ Good n m → Loaded n m a
-loaded {s} j e = loads s (accepted s (sym j.judged ∙ e)) (rw e at j.decodes)
+pub loaded : {s : List ℕ} {a : Decoded} {e : Extent} → Judges s (Ok e) a → Loaded e a
+loaded {s} j = loads s (accepted s (sym j.judged)) j.decodes

@@ -1,19 +1,16 @@
 -- The marking loop, and the lowest fault by its marks.
-use Rattle.std.specs.Prelude.{◌≡◌, Bool, true, false, cond, not, ◌||◌, List, ℕ, ◌+◌, ◌≤◌, ◌<◌, min, eqb, length, get_or, set, take, replicate}
+use Rattle.std.specs.Prelude.{◌≡◌, Bool, true, false, cond, not, ◌||◌, List, ℕ, ◌+◌, ◌≤◌, ◌<◌, min, eqb, ltb, length, get_or, set, replicate, Option, Some, None}
 use Rattle.std.proofs.Math.Path.{refl, sym}
-use Rattle.std.proofs.Common.{ap, ◌∙◌, zero-add, add-one, arith, length-set, get_or-set_same, get_or-set_other, eq-eqb, ne_eqb}
+use Rattle.std.proofs.Common.{◌∙◌, zero-add, add-one, arith, length-set, get_or-set_same, get_or-set_other, eq-eqb, ne_eqb, lt-ltb, le-ltb, ltb-true, ltb-false}
 use Rattle.std.proofs.Math.Bool.{or-true}
 use Rattle.std.proofs.Math.Decide.{ℕ_discrete}
 use Rattle.std.proofs.lemmas.List.{length-replicate}
 use Rattle.std.proofs.Math.ListN.{get_or-replicate}
 use Rattle.std.proofs.Math.Seq.{ext_get_or}
-use Rattle.whole.specs.Pick.{if_yes, if_no}
-use Rattle.circuit.specs.Lists.{tabulate, count, lowest}
+use Rattle.circuit.specs.Lists.{tabulate, count, lowest, below}
 use Rattle.circuit.proofs.ListLaws.{clash, length-tabulate, get_or-tabulate, lowest_le, lowest_is, lowest_first}
-use Rattle.netlists.specs.declared.Verdict.{Verdict}
-use Rattle.netlists.specs.declared.Verdict.TheVariants.{Good, Ends}
 use Rattle.netlists.specs.Judge.{ends, faulty}
-use Rattle.netlists.specs.Ends.{mark_of, fault_at, fault_by, fault_of, ended_by}
+use Rattle.netlists.specs.Ends.{mark_of, fault_at, fault_by, fault_of}
 use Rattle.netlists.specs.EndsLaws.{faulty_halves}
 
 -- ---- marking
@@ -91,7 +88,8 @@ lowest_either f g h n e =
 -- ---- the verdict
 
 -- the lowest fault by one list, by marks that were made so
-pub fault_is : (ks l : List ℕ) (k : ℕ) {ms : List ℕ} {r a : ℕ} → r ≡ lowest (fault_at ks ms k) (length ks) → ms ≡ tabulate (mark_of l) a → a ≡ length ks → r ≡ fault_by ks l k
+pub fault_is : (ks l : List ℕ) (k : ℕ) {ms : List ℕ} {r : Option ℕ} {a : ℕ} → r ≡ below (length ks) (lowest (fault_at ks ms k) (length ks)) → ms ≡ tabulate (mark_of l) a → a ≡ length ks
+    → r ≡ below (length ks) (fault_by ks l k)
 unfolding fault_by
 fault_is ks l k e m p = e ∙ rw (m, p) refl
 
@@ -112,9 +110,20 @@ pub fault_lesser : (ks fs ts : List ℕ) → fault_of ks fs ts ≡ min (fault_by
 unfolding fault_of fault_by
 fault_lesser ks fs ts = lowest_either _ _ _ (length ks) (fault_either ks fs ts (length ks))
 
-module _ (ks fs ts : List ℕ) {v : Verdict} {n m x : ℕ} (good : v ≡ Good n m) (found : x ≡ fault_of (take n ks) (take m fs) (take m ts)) where
-  pub fault_ends : x < n → Ends x ≡ ended_by v ks fs ts
-  fault_ends h = rw good (if_yes _ _ (rw found at h) (ap Ends found))
+-- the lesser of two that may be missing
+abbrev pub lesser : Option ℕ → Option ℕ → Option ℕ
+lesser (Some x) (Some y) = Some (min x y)
+lesser (Some x) None = Some x
+lesser None q = q
 
-  pub fault_none : n ≤ x → Good n m ≡ ended_by v ks fs ts
-  fault_none h = rw good (if_no _ _ (rw found at h) refl)
+lesser_below : (n a b : ℕ) → lesser (below n a) (below n b) ≡ below n (min a b)
+lesser_below n a b = by (ltb a n) (ltb b n) refl refl
+  where
+    by : (p q : Bool) → ltb a n ≡ p → ltb b n ≡ q → lesser (cond (ltb a n) (Some a) None) (cond (ltb b n) (Some b) None) ≡ cond (ltb (min a b) n) (Some (min a b)) None
+    by true true e f = let g = ltb-true a n e in rw (e, f, lt-ltb (min a b) n (omega arith)) refl
+    by true false e f = let g = ltb-true a n e in let h = ltb-false b n f in let m : min a b ≡ a = omega arith in rw (m, e, f) refl
+    by false true e f = let g = ltb-false a n e in let h = ltb-true b n f in let m : min a b ≡ b = omega arith in rw (m, e, f) refl
+    by false false e f = let g = ltb-false a n e in let h = ltb-false b n f in rw (e, f, le-ltb (min a b) n (omega arith)) refl
+
+pub fault_least : (ks fs ts : List ℕ) {i o : Option ℕ} → i ≡ below (length ks) (fault_by ks ts 0) → o ≡ below (length ks) (fault_by ks fs 2) → lesser i o ≡ below (length ks) (fault_of ks fs ts)
+fault_least ks fs ts e f = rw (e, f, fault_lesser ks fs ts) (lesser_below (length ks) (fault_by ks ts 0) (fault_by ks fs 2))

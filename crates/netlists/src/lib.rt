@@ -1,20 +1,28 @@
-// Netlist files: judged front to back, and decoded into the caller's arrays on the way.
+// Netlist files: judged front to back, and decoded on the way into arrays that the caller lends.
 #![tactic(auto)]
 
-ghost use Rattle.std.specs.Prelude.{◌≡◌, not, ◌&&◌, ◌||◌, ◌≤◌, ◌<◌, eqb, pos, length, set, replicate};
+ghost use Rattle.std.specs.Prelude.{◌≡◌, not, ◌&&◌, ◌≤◌, ◌<◌, eqb, length, take};
 ghost use Rattle.std.specs.Bool.{beq};
-ghost use Rattle.whole.specs.Whole.{eq_z};
-ghost use Rattle.circuit.specs.Lists.{tabulate, lowest};
-ghost use Rattle.netlists.specs.Judge.{key, fields_ok, wiring_ok};
-ghost use Rattle.netlists.specs.Ends.{Below, mark_of, fault_at, fault_by, fault_of, Endable, ended_by};
-ghost use Rattle.netlists.specs.Held.{component_of, connection_of, time_in, arrays, LongParts, LongWires, Room, ended_at, OnComponent, OnConnection, OnRecord, OneStep, Read, Judges};
+ghost use Rattle.circuit.specs.Kinds.{byte_of};
+ghost use Rattle.circuit.specs.Lists.{tabulate, lowest, below};
+ghost use Rattle.netlists.specs.Judge.{key, fields_ok, wiring_ok, number_in, place_in, on_component, on_connection, on_record};
+ghost use Rattle.netlists.specs.Ends.{Below, mark_of, fault_at, fault_by, fault_of};
+ghost use Rattle.netlists.specs.Held.{component_of, connection_of, time_in, Front, OneComponent, OneConnection, held, Room, ended_at, Took, OneStep, Read, Judges};
 
-use records::Found;
+use circuit::{Circuit, Kind};
+use records::{Reader, Record};
+use whole::BigEndian;
 
-// How a netlist is judged: taken, with the numbers of components and connections, or refused, with the place (document 01, refusals 2 to 7).
-#[derive(Clone, Copy)]
-pub enum Verdict {
-    Good(usize, usize),
+// How many components and connections a taken netlist has.
+#[derive(Clone, Copy, Debug, PartialEq, Eq)]
+pub struct Extent {
+    pub components: usize,
+    pub connections: usize,
+}
+
+// Why a netlist is refused: the offset of the record at fault or, of `Ends`, the component.
+#[derive(Clone, Copy, Debug, PartialEq, Eq)]
+pub enum Fault {
     Broken(usize),
     Tag(usize),
     Size(usize),
@@ -23,21 +31,43 @@ pub enum Verdict {
     Ends(usize),
 }
 
+impl Fault {
+    // The refusal's number, 2 to 7.
+    pub fn number(self) -> u32
+        ensures { result ≡ number_in self }
+    {
+        match self {
+            Fault::Broken(_) => 2,
+            Fault::Tag(_) => 3,
+            Fault::Size(_) => 4,
+            Fault::Field(_) => 5,
+            Fault::Wiring(_) => 6,
+            Fault::Ends(_) => 7,
+        }
+    }
+
+    pub fn place(self) -> usize
+        ensures { result ≡ place_in self }
+    {
+        match self {
+            Fault::Broken(at)
+            | Fault::Tag(at)
+            | Fault::Size(at)
+            | Fault::Field(at)
+            | Fault::Wiring(at) => at,
+            Fault::Ends(x) => x,
+        }
+    }
+}
+
 // Between two records: the offset of the next, how many components and connections were stored, and the least key that the next connection
-// may have.
-#[derive(Clone, Copy)]
+// may have. The counts stand beside the arrays that are lent: with them in one struct, what a step leaves would be said of its fields all the same.
+#[derive(Clone, Copy, Default)]
 struct State {
     at: usize,
     comps: usize,
     conns: usize,
     least: u32,
-}
-
-// What a record leads to: the next state, or a verdict.
-#[derive(Clone, Copy)]
-enum Stepped {
-    Go(State),
-    Stop(Verdict),
 }
 
 // The fields of a component's record, and of a connection's.
@@ -61,8 +91,8 @@ fn read_component(p: &[u8]) -> Component
 {
     Component {
         kind: p[0],
-        base: whole::u32_at(p, 1),
-        time: whole::i32_at(p, 5),
+        base: u32::at(p, 1),
+        time: i32::at(p, 5),
     }
 }
 
@@ -71,373 +101,271 @@ fn read_connection(p: &[u8]) -> Connection
     ensures { result ≡ connection_of p.now }
 {
     Connection {
-        from: whole::u16_at(p, 0),
-        to: whole::u16_at(p, 2),
+        from: u16::at(p, 0),
+        to: u16::at(p, 2),
     }
 }
 
-// From -100,000,000 to 100,000,000.
-fn time_in(time: i64) -> bool
+fn time_in(time: i32) -> bool
     ensures { result ≡ time_in time }
 {
-    if whole::less(time, -100000000) {
-        return false;
-    }
-    if whole::less(100000000, time) {
-        return false;
-    }
-    true
+    -100_000_000 <= time && time <= 100_000_000
 }
 
-// An inner component's time is 0.
-fn time_ok(kind: u8, time: i64) -> bool
-    ensures { result ≡ (not (eqb kind 1) || eq_z time (pos 0)) && time_in time }
+// A kind, a base delay of 16 bits, which is 0 for an input, and a time, which is 0 for an inner component.
+#[tactic(auto, unfolding(crate::specs::Judge::fields_ok, whole::specs::Whole::eq_z))]
+fn fields_ok(c: Component) -> bool
+    ensures { result ≡ fields_ok c.kind c.base c.time }
 {
-    if kind == 1 {
-        if whole::same(time, 0) {
-            return time_in(time);
-        }
-        return false;
+    match Kind::try_from(c.kind) {
+        Ok(Kind::Input) => c.base == 0 && time_in(c.time),
+        Ok(Kind::Inner) => c.base <= 65535 && c.time == 0,
+        Ok(Kind::Output) => c.base <= 65535 && time_in(c.time),
+        Err(_) => false,
     }
-    time_in(time)
-}
-
-// A kind, a base delay of 16 bits, which is 0 for an input, and a time.
-fn fields_ok(kind: u8, base: u32, time: i64) -> bool
-    ensures { result ≡ fields_ok kind base time }
-{
-    if 2 < kind {
-        return false;
-    }
-    if 65535 < base {
-        return false;
-    }
-    if kind == 0 {
-        if base == 0 {
-            return time_ok(kind, time);
-        }
-        return false;
-    }
-    time_ok(kind, time)
 }
 
 // (to, from) as one number.
 fn key_of(from: u16, to: u16) -> u32
     ensures { result ≡ key from to }
 {
-    to as u32 * 65536 + from as u32
+    u32::from(to) * 65536 + u32::from(from)
 }
 
 // Between two of so many components, upwards, and after the connections before it.
+#[tactic(auto, unfolding(crate::specs::Judge::wiring_ok))]
 fn wiring_ok(from: u16, to: u16, count: usize, least: u32) -> bool
     ensures { result ≡ wiring_ok from to count least }
 {
-    if count <= from as usize {
-        return false;
+    usize::from(from) < count && usize::from(to) < count && from < to && least <= key_of(from, to)
+}
+
+// ---- what is decoded
+
+// Where the components and the connections of a netlist are decoded into: as many of each as a netlist may have.
+#[derive(Drop)]
+pub struct Decoded {
+    pub kinds: [u8; 1024],
+    pub bases: [i32; 1024],
+    pub times: [i32; 1024],
+    pub from: [u16; 4096],
+    pub to: [u16; 4096],
+}
+
+impl Decoded {
+    pub const EMPTY: Decoded = Decoded {
+        kinds: [0; 1024],
+        bases: [0; 1024],
+        times: [0; 1024],
+        from: [0; 4096],
+        to: [0; 4096],
+    };
+
+    // The columns of a netlist of this extent: the front of the arrays.
+    pub fn circuit(&self, extent: Extent) -> Circuit<'_>
+        requires { (extent.components ≤ 1024) × (extent.connections ≤ 4096) }
+        ensures { Front result extent self.now }
+    {
+        Circuit {
+            kinds: &self.kinds[..extent.components],
+            times: &self.times[..extent.components],
+            from: &self.from[..extent.connections],
+            to: &self.to[..extent.connections],
+        }
     }
-    if count <= to as usize {
-        return false;
+
+    // The base delays of its components.
+    pub fn bases(&self, extent: Extent) -> &[i32]
+        requires { extent.components ≤ 1024 }
+        ensures { result.now ≡ take extent.components self.now.bases }
+    {
+        &self.bases[..extent.components]
     }
-    if to <= from {
-        return false;
+
+    // Component i, and connection j, behind those before them. By the clause the base delay goes into its type: `try_from` would give a `Result`.
+    fn put_component(&mut self, i: usize, c: Component)
+        requires { (i < 1024) × (c.base ≤ 65535) }
+        ensures { OneComponent self.old self.new i c }
+    {
+        self.kinds[i] = c.kind;
+        self.bases[i] = c.base as i32;
+        self.times[i] = c.time;
     }
-    least <= key_of(from, to)
+
+    fn put_connection(&mut self, j: usize, w: Connection)
+        requires { j < 4096 }
+        ensures { OneConnection self.old self.new j w }
+    {
+        self.from[j] = w.from;
+        self.to[j] = w.to;
+    }
 }
 
 // ---- one record
 
-fn put_component(kinds: &mut [u8], bases: &mut [i32], times: &mut [i32], i: usize, c: Component)
-    requires { (i < length kinds.old) × (i < length bases.old) × (i < length times.old) × (c.base ≤ 65535) }
-    ensures kinds_after { kinds.new ≡ set kinds.old i c.kind }
-    ensures bases_after { bases.new ≡ set bases.old i (pos c.base) }
-    ensures times_after { times.new ≡ set times.old i c.time }
+fn on_component(p: &[u8], st: State, next: usize, decoded: &mut Decoded) -> Result<State, Fault>
+    requires { Room st decoded.old }
+    ensures { Took result decoded.old decoded.new (on_component p.now (held st decoded.old) next) }
 {
-    let time = c.time;
-    kinds[i] = c.kind;
-    bases[i] = whole::narrow(whole::of_u32(c.base));
-    times[i] = time;
-}
-
-fn put_connection(from: &mut [u16], to: &mut [u16], j: usize, w: Connection)
-    requires { (j < length from.old) × (j < length to.old) }
-    ensures from_after { from.new ≡ set from.old j w.from }
-    ensures to_after { to.new ≡ set to.old j w.to }
-{
-    from[j] = w.from;
-    to[j] = w.to;
-}
-
-// It knows nothing of the connections but their number, whatever arrays they stand in.
-fn on_component(
-    p: &[u8],
-    st: State,
-    next: usize,
-    kinds: &mut [u8],
-    bases: &mut [i32],
-    times: &mut [i32],
-) -> Stepped
-    requires { Room st × LongParts kinds.old bases.old times.old }
-    ensures { OnComponent result p.now st next kinds.old bases.old times.old kinds.new bases.new times.new }
-{
-    let at = st.at;
-    let comps = st.comps;
-    let conns = st.conns;
-    if p.len() != 9 {
-        return Stepped::Stop(Verdict::Tag(at));
+    if p.len() != 9 || st.conns != 0 {
+        return Err(Fault::Tag(st.at));
     }
-    if conns != 0 {
-        return Stepped::Stop(Verdict::Tag(at));
-    }
-    if 1024 <= comps {
-        return Stepped::Stop(Verdict::Size(at));
+    if 1024 <= st.comps {
+        return Err(Fault::Size(st.at));
     }
     let c = read_component(p);
-    if fields_ok(c.kind, c.base, whole::of_i32(c.time)) {
-        put_component(kinds, bases, times, comps, c);
-        Stepped::Go(State {
-            at: next,
-            comps: comps + 1,
-            conns,
-            least: st.least,
-        })
-    } else {
-        Stepped::Stop(Verdict::Field(at))
+    if !fields_ok(c) {
+        return Err(Fault::Field(st.at));
     }
+    decoded.put_component(st.comps, c);
+    Ok(State {
+        at: next,
+        comps: st.comps + 1,
+        ..st
+    })
 }
 
-fn on_connection(p: &[u8], st: State, next: usize, from: &mut [u16], to: &mut [u16]) -> Stepped
-    requires { Room st × LongWires from.old to.old }
-    ensures { OnConnection result p.now st next from.old to.old from.new to.new }
+fn on_connection(p: &[u8], st: State, next: usize, decoded: &mut Decoded) -> Result<State, Fault>
+    requires { Room st decoded.old }
+    ensures { Took result decoded.old decoded.new (on_connection p.now (held st decoded.old) next) }
 {
-    let at = st.at;
-    let comps = st.comps;
-    let conns = st.conns;
     if p.len() != 4 {
-        return Stepped::Stop(Verdict::Tag(at));
+        return Err(Fault::Tag(st.at));
     }
-    if 4096 <= conns {
-        return Stepped::Stop(Verdict::Size(at));
+    if 4096 <= st.conns {
+        return Err(Fault::Size(st.at));
     }
     let w = read_connection(p);
-    if wiring_ok(w.from, w.to, comps, st.least) {
-        put_connection(from, to, conns, w);
-        Stepped::Go(State {
-            at: next,
-            comps,
-            conns: conns + 1,
-            least: key_of(w.from, w.to) + 1,
-        })
-    } else {
-        Stepped::Stop(Verdict::Wiring(at))
+    if !wiring_ok(w.from, w.to, st.comps, st.least) {
+        return Err(Fault::Wiring(st.at));
+    }
+    decoded.put_connection(st.conns, w);
+    Ok(State {
+        at: next,
+        conns: st.conns + 1,
+        least: key_of(w.from, w.to) + 1,
+        ..st
+    })
+}
+
+// A component has the tag 1, a connection the tag 2: an enum of tags would be made by this match. What each does stays two functions, since they
+// share no step but the first test.
+fn on_record(r: Record, p: &[u8], st: State, decoded: &mut Decoded) -> Result<State, Fault>
+    requires { Room st decoded.old }
+    ensures { Took result decoded.old decoded.new (on_record r.tag p.now (held st decoded.old) r.next) }
+{
+    match r.tag {
+        1 => on_component(p, st, r.next, decoded),
+        2 => on_connection(p, st, r.next, decoded),
+        _ => Err(Fault::Tag(st.at)),
     }
 }
 
-fn on_record(
-    tag: u8,
-    p: &[u8],
-    st: State,
-    next: usize,
-    kinds: &mut [u8],
-    bases: &mut [i32],
-    times: &mut [i32],
-    from: &mut [u16],
-    to: &mut [u16],
-) -> Stepped
-    requires { Room st × LongParts kinds.old bases.old times.old × LongWires from.old to.old }
-    ensures { OnRecord result tag p.now st next (arrays kinds.old bases.old times.old from.old to.old) (arrays kinds.new bases.new times.new from.new to.new) }
+// The next state, or none at the file's end.
+fn step(s: &[u8], st: State, decoded: &mut Decoded) -> Result<Option<State>, Fault>
+    requires { Room st decoded.old }
+    ensures { OneStep result s.now st decoded.old decoded.new }
 {
-    if tag == 1 {
-        return on_component(p, st, next, kinds, bases, times);
+    let reader = Reader::new(s, st.at);
+    match reader.next() {
+        Ok(Some(r)) => {
+            let p = reader.contents(r.start, r.len);
+            Ok(Some(on_record(r, p, st, decoded)?))
+        }
+        Ok(None) => Ok(None),
+        Err(_) => Err(Fault::Broken(st.at)),
     }
-    if tag == 2 {
-        return on_connection(p, st, next, from, to);
-    }
-    Stepped::Stop(Verdict::Tag(st.at))
 }
 
 // At the end of a file of so many bytes.
-fn ended(size: usize, st: State) -> Verdict
+fn ended(size: usize, st: State) -> Result<Extent, Fault>
     ensures { result ≡ ended_at size st.comps st.conns }
 {
     if st.comps == 0 {
-        return Verdict::Size(size);
+        return Err(Fault::Size(size));
     }
-    Verdict::Good(st.comps, st.conns)
-}
-
-fn step(
-    s: &[u8],
-    st: State,
-    kinds: &mut [u8],
-    bases: &mut [i32],
-    times: &mut [i32],
-    from: &mut [u16],
-    to: &mut [u16],
-) -> Stepped
-    requires { Room st × LongParts kinds.old bases.old times.old × LongWires from.old to.old }
-    ensures { OneStep result s.now st (arrays kinds.old bases.old times.old from.old to.old) (arrays kinds.new bases.new times.new from.new to.new) }
-{
-    let at = st.at;
-    match records::record_from(s, at) {
-        Found::End => Stepped::Stop(ended(s.len(), st)),
-        Found::Broken => Stepped::Stop(Verdict::Broken(at)),
-        Found::Record {
-            tag,
-            start,
-            len,
-            next,
-        } => on_record(
-            tag,
-            records::contents_from(s, start, len),
-            st,
-            next,
-            kinds,
-            bases,
-            times,
-            from,
-            to,
-        ),
-    }
+    Ok(Extent {
+        components: st.comps,
+        connections: st.conns,
+    })
 }
 
 // A record takes three bytes or more, so that the file's length is fuel enough.
-fn read_records(
-    s: &[u8],
-    kinds: &mut [u8],
-    bases: &mut [i32],
-    times: &mut [i32],
-    from: &mut [u16],
-    to: &mut [u16],
-) -> Verdict
-    requires { LongParts kinds.old bases.old times.old × LongWires from.old to.old }
-    ensures { Read s.now result (arrays kinds.new bases.new times.new from.new to.new) }
+fn read_records(s: &[u8], decoded: &mut Decoded) -> Result<Extent, Fault>
+    ensures { Read s.now result decoded.new }
 {
-    let mut st = State {
-        at: 0,
-        comps: 0,
-        conns: 0,
-        least: 0,
-    };
-    let mut left = s.len();
-    while 0 < left {
-        match step(s, st, kinds, bases, times, from, to) {
-            Stepped::Stop(v) => return v,
-            Stepped::Go(n) => {
-                st = n;
-            }
-        }
-        left -= 1;
+    let mut st = State::default();
+    for _ in 0..s.len() {
+        let Some(next) = step(s, st, decoded)? else {
+            break;
+        };
+        st = next;
     }
     ended(s.len(), st)
 }
 
 // ---- ENDS
 
-fn clear(met: &mut [u8])
-    ensures { met.new ≡ replicate (length met.old) 0 }
-{
-    let mut i = 0;
-    while i < met.len() {
-        met[i] = 0;
-        i += 1;
-    }
-}
-
-fn mark_one(met: &mut [u8], x: u16)
-    requires { x < length met.old }
-    ensures { met.new ≡ set met.old x 1 }
-{
-    met[x as usize] = 1;
-}
-
 // 1 for each component that the list meets and 0 for the others, whatever was there before.
 fn mark(met: &mut [u8], l: &[u16])
     requires { Below l.now (length met.old) }
     ensures { met.new ≡ tabulate (mark_of l.now) (length met.old) }
 {
-    clear(met);
-    let mut j = 0;
-    while j < l.len() {
-        mark_one(met, l[j]);
-        j += 1;
+    met.fill(0);
+    for &x in l {
+        met[usize::from(x)] = 1;
     }
 }
 
-// A component of kind k must not be met, and one of another kind must.
-fn is_fault(kind: u8, k: u8, mark: u8) -> bool
-    ensures { result ≡ beq (eqb kind k) (eqb mark 1) }
+// A component of kind k must not be met, and one of another kind must. Kinds and marks are bytes, as their columns have them.
+// A kind as the file has it, against the kind that the rule is of.
+fn is_fault(kind: u8, k: Kind, mark: u8) -> bool
+    ensures { result ≡ beq (eqb kind (byte_of k)) (eqb mark 1) }
 {
-    (kind == k) == (mark == 1)
+    (kind == k as u8) == (mark == 1)
 }
 
-fn lowest_fault(kinds: &[u8], k: u8, met: &[u8]) -> usize
+fn lowest_fault(kinds: &[u8], k: Kind, met: &[u8]) -> Option<usize>
     requires { length met.now ≡ length kinds.now }
-    ensures { result ≡ lowest (fault_at kinds.now met.now k) (length kinds.now) }
+    ensures { result ≡ below (length kinds.now) (lowest (fault_at kinds.now met.now (byte_of k)) (length kinds.now)) }
 {
-    let mut x = 0;
-    while x < kinds.len() {
-        if is_fault(kinds[x], k, met[x]) {
-            return x;
-        }
-        x += 1;
-    }
-    x
+    (0..kinds.len()).find(|&x| is_fault(kinds[x], k, met[x]))
 }
 
 // The lowest fault by one of the two lists.
-fn fault_by(kinds: &[u8], l: &[u16], k: u8, met: &mut [u8]) -> usize
+fn fault_by(kinds: &[u8], l: &[u16], k: Kind, met: &mut [u8]) -> Option<usize>
     requires { (length met.old ≡ length kinds.now) × Below l.now (length kinds.now) }
-    ensures { result ≡ fault_by kinds.now l.now k }
+    ensures { result ≡ below (length kinds.now) (fault_by kinds.now l.now (byte_of k)) }
 {
     mark(met, l);
     lowest_fault(kinds, k, met)
 }
 
-// An input, of kind 0, has no fan-in and no other is without; an output, of kind 2, has no fan-out and no other is without.
-fn fault_of(kinds: &[u8], from: &[u16], to: &[u16], met: &mut [u8]) -> usize
-    requires met_len { length met.old ≡ length kinds.now }
-    requires below { Below from.now (length kinds.now) × Below to.now (length kinds.now) }
-    ensures { result ≡ fault_of kinds.now from.now to.now }
+// The lowest fault by either: an input has no fan-in and no other is without, an output has no fan-out and no other is without.
+fn fault_of(circuit: Circuit<'_>, met: &mut [u8]) -> Option<usize>
+    requires met_len { length met.old ≡ length circuit.kinds.now }
+    requires below { Below circuit.from.now (length circuit.kinds.now) × Below circuit.to.now (length circuit.kinds.now) }
+    ensures { result ≡ below (length circuit.entry.kinds.now) (fault_of circuit.entry.kinds.now circuit.entry.from.now circuit.entry.to.now) }
 {
-    let i = fault_by(kinds, to, 0, met);
-    let o = fault_by(kinds, from, 2, met);
-    if o < i {
-        return o;
+    let i = fault_by(circuit.kinds, circuit.to, Kind::Input, met);
+    let o = fault_by(circuit.kinds, circuit.from, Kind::Output, met);
+    match (i, o) {
+        (Some(x), Some(y)) => Some(x.min(y)),
+        _ => i.or(o),
     }
-    i
-}
-
-// The verdict on records that were read so, with ENDS.
-fn with_ends(v: Verdict, kinds: &[u8], from: &[u16], to: &[u16], met: &mut [u8]) -> Verdict
-    requires { Endable v kinds.now from.now to.now × (length met.old ≡ 1024) }
-    ensures { result ≡ ended_by v kinds.now from.now to.now }
-{
-    let Verdict::Good(n, m) = v else {
-        return v;
-    };
-    let x = fault_of(&kinds[..n], &from[..m], &to[..m], &mut met[..n]);
-    if x < n {
-        return Verdict::Ends(x);
-    }
-    v
 }
 
 // ---- the netlist
 
-// Judges a file, and decodes a taken one: the kinds, base delays and times of its n components into the first n places of their arrays, and
-// where its m connections come from and go to into the first m of theirs. ENDS works in `met`: what it holds says nothing, before or after.
-pub fn read_netlist(
-    s: &[u8],
-    kinds: &mut [u8],
-    bases: &mut [i32],
-    times: &mut [i32],
-    from: &mut [u16],
-    to: &mut [u16],
-    met: &mut [u8],
-) -> Verdict
-    requires { LongParts kinds.old bases.old times.old × LongWires from.old to.old × (length met.old ≡ 1024) }
-    ensures { Judges s.now result (arrays kinds.new bases.new times.new from.new to.new) }
+// Judges a file, and decodes a taken one: its components and connections stand at the front of the arrays. ENDS works in `met`: what it holds
+// says nothing, before or after.
+pub fn read_netlist(s: &[u8], decoded: &mut Decoded, met: &mut [u8]) -> Result<Extent, Fault>
+    requires { length met.old ≡ 1024 }
+    ensures { Judges s.now result decoded.new }
 {
-    let v = read_records(s, kinds, bases, times, from, to);
-    with_ends(v, kinds, from, to, met)
+    let extent = read_records(s, decoded)?;
+    match fault_of(decoded.circuit(extent), &mut met[..extent.components]) {
+        Some(x) => Err(Fault::Ends(x)),
+        None => Ok(extent),
+    }
 }

@@ -6,7 +6,7 @@ use Rattle.circuit.specs.Lists.{at}
 use Rattle.circuit.specs.Netlist.{marked}
 use Rattle.results.specs.Result.{bound_of}
 
-pub record Columns (sv : List ℕ) (bases : List ℤ) (incs : List ℕ) : Type 0 where
+pub record Aligned (sv : List ℕ) (bases : List ℤ) (incs : List ℕ) : Type 0 where
   pub few : length sv ≤ 1024
   pub based : length bases ≡ length sv
   pub raised : length incs ≡ length sv

@@ -1,203 +1,181 @@
--- The judge's steps as the code takes them, against those of the definitions: what is found where a record is due, and the ledger that
--- the place and the first entries of the caller's array stand for.
-use Rattle.std.specs.Prelude.{◌≡◌, Bool, true, false, List, [], ◌∷◌, ◌++◌, ℕ, suc, ◌+◌, ◌-◌, ◌≤◌, ◌<◌, ℤ, length, get_or, set, take}
-use Rattle.std.proofs.Math.Path.{refl}
-use Rattle.std.proofs.Common.{sym, ap, ◌∙◌, ⊎_elim, add-one, take_all, take-suc-set}
-use native.Mathlib.Omega.{arith}
+-- The judge's steps as the code takes them, against those of the definitions: a record that is due, and the ledger that the place and the
+-- first entries of the caller's array stand for.
+use Rattle.std.specs.Prelude.{◌≡◌, Bool, true, false, List, ℕ, suc, ◌+◌, ◌-◌, ◌≤◌, ◌<◌, ℤ, length, set, take, Option, Some, None, Result, Ok, Err}
+use Rattle.std.proofs.Common.{refl, sym, ◌∙◌, add-one, take_all, take-suc-set, arith}
 use Rattle.std.proofs.Math.Nat.{sub-zero}
-use Rattle.whole.specs.Whole.{up}
-use Rattle.whole.specs.Pick.{Test, Yes, eq, is, if?, if_yes, if_no, decide}
+use Rattle.whole.specs.Pick.{if_yes, if_no, if_cases}
 use Rattle.whole.specs.Bytes.{number_at}
+use Rattle.whole.specs.Whole.{up}
 use Rattle.circuit.specs.Lists.{at, count}
 use Rattle.circuit.specs.Netlist.{marked}
-use Rattle.records.specs.declared.Found.{Found}
-use Rattle.records.specs.declared.Found.TheVariants as F
+use Rattle.records.specs.declared.Record.{Record}
+use Rattle.records.specs.declared.Broken.{Broken}
 use Rattle.records.specs.Record.{record_at, part_of}
-use Rattle.results.specs.declared.Told.{Told}
-use Rattle.results.specs.declared.Told.TheVariants.{Result, Wrong}
+use Rattle.records.specs.RecordLaws.{Whole, whole, part_length}
+use Rattle.results.specs.declared.Summary.{Summary}
+use Rattle.results.specs.declared.Misfit.{Misfit}
 use Rattle.results.specs.declared.Bound.{Bound}
-use Rattle.results.specs.declared.Bound.TheVariants.{Good, Bad}
-use Rattle.results.specs.Result.{bound_tag, summary_ok, bound_ok, Ledger, Turn, Go, Stop, with_increment, on_bound, step_of, read_from, at_end, bounds_at, on_summary, told_of, incs_on, increments_of}
-use Rattle.records.specs.RecordLaws.{whole, part_length}
+use Rattle.results.specs.Result.{bound_tag, summary_ok, bound_ok, misfit, and_then, due, summary_in, summary_at, bound_due, step_of, Ledger, read_from, bounds_at, told_of, increments_of}
 
--- ---- the code's answers
-
--- what the summary says, by its tag and its contents
-unfoldable pub summary_told : (tag : ℕ) → List ℕ → (limit : ℕ) → Told
-summary_told tag p limit =
-    if? (eq tag 16)
-    (if? (eq (length p) 7)
-    (if? (is (summary_ok (get_or p 0 0) (number_at 4 p 1) (number_at 2 p 5) limit))
-    (Result (get_or p 0 0) (number_at 4 p 1) (number_at 2 p 5))
-    (Wrong 0)) (Wrong 0)) (Wrong 0)
-
-abbrev pub summary_found : List ℕ → (limit : ℕ) → Found → Told
-summary_found s limit F.End = Wrong 0
-summary_found s limit F.Broken = Wrong 0
-summary_found s limit (F.Record tag start len next) = summary_told tag (part_of s start len) limit
-
--- what a bound says that is due for component x, with base delay b, at place a
-unfoldable pub bound_told : (tag : ℕ) → List ℕ → (component base place next : ℕ) → Bound
-bound_told tag p x b a next =
-    if? (eq tag bound_tag)
-    (if? (eq (length p) 10)
-    (if? (is (bound_ok p x b))
-    (Good next (number_at 4 p 6))
-    (Bad a)) (Bad a)) (Bad a)
-
-abbrev pub bound_found : List ℕ → (component base place : ℕ) → Found → Bound
-bound_found s x b a F.End = Bad a
-bound_found s x b a F.Broken = Bad a
-bound_found s x b a (F.Record tag start len next) = bound_told tag (part_of s start len) x b a next
-
--- ---- the ledger
+-- ---- what the code ensures
 
 -- the judge's place, and what it has stored so far
 abbrev pub held : ℕ → List ℕ → Ledger
 held a incs = record { at = a; incs = incs }
 
--- a step's answer as a turn from the ledger l
-abbrev pub moved : Ledger → Bound → Turn
-moved l (Good n i) = Go (with_increment l n i)
-moved l (Bad a) = Stop a
-
--- what the summary said, and then the bounds
-abbrev pub and_bounds : List ℕ → Turn → Told → Told
-and_bounds s turn (Wrong a) = Wrong a
-and_bounds s turn (Result m t k) = at_end s (Result m t k) turn
-
--- how the bounds end: the caller's array holds what was read, where all were read
-pub record Ended (s : List ℕ) (said : Told) (turn : Turn) (r : Told) (incs : List ℕ) : Type 0 where
-  pub told : r ≡ at_end s said turn
-  pub read : {l : Ledger} → turn ≡ Go l → incs ≡ l.incs
+-- where the bounds end, and what the caller's array holds then
+abbrev pub ledger : List ℕ → Result ℕ Misfit → Result Ledger Misfit
+ledger incs (Ok a) = Ok (held a incs)
+ledger incs (Err e) = Err e
 
 -- what the judge ensures: its answer, and the increments of an accepted result
-pub record Heard (s sv : List ℕ) (bases : List ℤ) (r : Told) (incs : List ℕ) : Type 0 where
+pub record Heard (s sv : List ℕ) (bases : List ℤ) (r : Result Summary Misfit) (incs : List ℕ) : Type 0 where
   pub told : r ≡ told_of s sv bases
-  pub read : {m t k : ℕ} → r ≡ Result m t k → incs ≡ increments_of s sv bases
+  pub read : {y : Summary} → r ≡ Ok y → incs ≡ increments_of s sv bases
 
--- ---- a record that was found, judged
+-- what holds of what follows, and of each refusal, holds of both in a row
+pub bind_cases : {A B E : Type 0} (P : Result B E → Type 0) (t : Result A E) (f : A → Result B E) → ((v : A) → t ≡ Ok v → P (f v)) → ((e : E) → t ≡ Err e → P (Err e)) → P (and_then t f)
+bind_cases P (Ok v) f g h = g v refl
+bind_cases P (Err e) f g h = h e refl
 
--- what is so of what was found is so of the record at the place
-pub found_is : {A : Type 0} {f f' : Found} {r : A} (s : List ℕ) (a : ℕ) (g : Found → A) → f ≡ record_at s a → f ≡ f' → r ≡ g f' → r ≡ g (record_at s a)
-found_is s a g e₁ e₂ e₃ = rw (← e₁, e₂) e₃
+-- ---- a record that is due
 
--- a record with this tag and the contents p, by the numbers that were read in them
-module _ (p : List ℕ) (tag : ℕ) where
-  summary_is : {t k : ℕ} (limit : ℕ) → tag ≡ 16 → length p ≡ 7 → t ≡ number_at 4 p 1 → k ≡ number_at 2 p 5
-      → if? (is (summary_ok (get_or p 0 0) t k limit)) (Result (get_or p 0 0) t k) (Wrong 0) ≡ summary_told tag p limit
-  unfolding summary_told
-  summary_is limit h n e₁ e₂ = rw (e₁, e₂) (if_yes _ _ h (if_yes _ _ n refl))
+-- it is whole, and has this tag and so many bytes of contents
+pub record Due (s : List ℕ) (a tag len : ℕ) (r : Record) : Type 0 where
+  pub whole : Whole s a r
+  pub tagged : r.tag ≡ tag
+  pub long : r.len ≡ len
 
-  pub summary_good : {t k : ℕ} {ok : Bool} (limit : ℕ) → tag ≡ 16 → length p ≡ 7 → t ≡ number_at 4 p 1 → k ≡ number_at 2 p 5 → ok ≡ summary_ok (get_or p 0 0) t k limit → ok ≡ true
-      → Result (get_or p 0 0) t k ≡ summary_told tag p limit
-  summary_good limit h n e₁ e₂ e₃ g = if_yes _ _ (sym e₃ ∙ g) refl ∙ summary_is limit h n e₁ e₂
+-- what is due is there, or the place is refused
+abbrev pub OnDue : List ℕ → (place tag len : ℕ) → Result Record Misfit → Type 0
+OnDue s a tag len (Ok r) = Due s a tag len r
+OnDue s a tag len (Err e) = e.0 ≡ a
 
-  pub summary_bad : {t k : ℕ} {ok : Bool} (limit : ℕ) → tag ≡ 16 → length p ≡ 7 → t ≡ number_at 4 p 1 → k ≡ number_at 2 p 5 → ok ≡ summary_ok (get_or p 0 0) t k limit → ok ≡ false
-      → Wrong 0 ≡ summary_told tag p limit
-  summary_bad limit h n e₁ e₂ e₃ g = if_no _ _ (sym e₃ ∙ g) refl ∙ summary_is limit h n e₁ e₂
+module _ (s : List ℕ) (a tag len : ℕ) where
+  due_by : (f : Result (Option Record) Broken) → record_at s a ≡ f → OnDue s a tag len (due tag len a f)
+  due_by (Ok None) e = refl
+  due_by (Err b) e = refl
+  due_by (Ok (Some r)) e =
+      if_cases (OnDue s a tag len) _ _ _ (λ t. if_cases (OnDue s a tag len) _ _ _ (λ l. record { whole = whole s a e; tagged = t; long = l }) (λ _. refl)) (λ _. refl)
 
-  pub bound_good : {i : ℕ} {ok : Bool} (x b place next : ℕ) → tag ≡ bound_tag → length p ≡ 10 → ok ≡ bound_ok p x b → ok ≡ true → i ≡ number_at 4 p 6 → Good next i ≡ bound_told tag p x b place next
-  unfolding bound_told
-  bound_good x b place next h n e g e₁ = if_yes _ _ h (if_yes _ _ n (if_yes _ _ (sym e ∙ g) (rw e₁)))
+  pub on_due : OnDue s a tag len (due tag len a (record_at s a))
+  on_due = due_by (record_at s a) refl
 
-  pub bound_bad : {ok : Bool} (x b place next : ℕ) → tag ≡ bound_tag → length p ≡ 10 → ok ≡ bound_ok p x b → ok ≡ false → Bad place ≡ bound_told tag p x b place next
-  unfolding bound_told
-  bound_bad x b place next h n e g = if_yes _ _ h (if_yes _ _ n (if_no _ _ (sym e ∙ g) refl))
+  pub not_due : {e : Misfit} → due tag len a (record_at s a) ≡ Err e → e.0 ≡ a
+  not_due e = rw e at on_due
 
--- a function over the branches of a choice
-if_map : {A B : Type 0} (f : A → B) {u v : A} {y z : B} (t : Test) → (Yes t → f u ≡ y) → f v ≡ z → f (if? t u v) ≡ if? t y z
-if_map f {u} {v} {y} {z} t g e =
-    ⊎_elim (λ h. ap f (sym (if_yes t v h refl)) ∙ if_yes t z h (g h)) (λ h. ap f (sym (if_no t u h refl)) ∙ if_no t y h e) (decide t)
+  pub was_due : {r : Record} → due tag len a (record_at s a) ≡ Ok r → Due s a tag len r
+  was_due e = rw e at on_due
 
-bound_turn : (s : List ℕ) (x b a : ℕ) (pre : List ℕ) (f : Found) → record_at s a ≡ f → moved (held a pre) (bound_found s x b a f) ≡ on_bound s x b (held a pre) f
-unfolding bound_told
-bound_turn s x b a pre F.End e = refl
-bound_turn s x b a pre F.Broken e = refl
-bound_turn s x b a pre (F.Record tag start len next) e =
-    let w = whole s a e in
-    let m = moved (held a pre) in
-    rw (part_length s start len (omega arith)) (if_map m _ (λ _. if_map m _ (λ _. if_map m _ (λ _. refl) refl) refl) refl)
+module _ (s : List ℕ) (a tag len : ℕ) {r : Record} (e : Ok (Some r) ≡ record_at s a) where
+  pub due_is : r.tag ≡ tag → r.len ≡ len → Ok r ≡ due tag len a (record_at s a)
+  due_is t l = rw (← e) (if_yes _ _ t (if_yes _ _ l refl))
 
-module _ (s sv : List ℕ) (bases : List ℤ) where
-  pub step_bound : {r : Bound} (x a : ℕ) (pre : List ℕ) → marked sv x ≡ true → r ≡ bound_found s x (up (at bases x)) a (record_at s a)
-      → moved (held a pre) r ≡ step_of s sv bases x (held a pre)
+  pub due_tag : (r.tag ≡ tag → ⊥) → misfit a ≡ due tag len a (record_at s a)
+  due_tag t = rw (← e) (if_no _ _ t refl)
+
+  pub due_len : r.tag ≡ tag → (r.len ≡ len → ⊥) → misfit a ≡ due tag len a (record_at s a)
+  due_len t l = rw (← e) (if_yes _ _ t (if_no _ _ l refl))
+
+pub length_due : {s : List ℕ} {a tag len : ℕ} {r : Record} → Due s a tag len r → length (part_of s r.start r.len) ≡ len
+length_due {s} {a} {tag} {len} {r} d = part_length s r.start r.len d.whole.fits ∙ d.long
+
+-- ---- the summary, and a bound, by what was read in the record that is due
+
+module _ (s : List ℕ) (limit : ℕ) where
+  pub summary_missing : {e : Misfit} → Err e ≡ due 16 7 0 (record_at s 0) → Err e ≡ summary_at s limit
+  unfolding summary_at
+  summary_missing h = rw (← h)
+
+  module _ {r : Record} {y : Summary} {ok : Bool} (h : Ok r ≡ due 16 7 0 (record_at s 0)) (f : y ≡ summary_in (part_of s r.start r.len)) (o : ok ≡ summary_ok y limit) where
+    pub summary_good : ok ≡ true → Ok y ≡ summary_at s limit
+    unfolding summary_at
+    summary_good g = rw (← h, ← f) (if_yes _ _ (sym o ∙ g) refl)
+
+    pub summary_bad : ok ≡ false → misfit 0 ≡ summary_at s limit
+    unfolding summary_at
+    summary_bad g = rw (← h, ← f) (if_no _ _ (sym o ∙ g) refl)
+
+module _ (s : List ℕ) (x b a : ℕ) where
+  pub bound_missing : {e : Misfit} → Err e ≡ due bound_tag 10 a (record_at s a) → Err e ≡ bound_due s x b a
+  unfolding bound_due
+  bound_missing h = rw (← h)
+
+  module _ {r : Record} {p : List ℕ} {ok : Bool} (h : Ok r ≡ due bound_tag 10 a (record_at s a)) (f : p ≡ part_of s r.start r.len) (o : ok ≡ bound_ok p x b) where
+    pub bound_good : {i : ℕ} → ok ≡ true → i ≡ number_at 4 p 6 → Ok (record { next = r.next; increment = i }) ≡ bound_due s x b a
+    unfolding bound_due
+    bound_good g e = rw (← h, ← f, e) (if_yes _ _ (sym o ∙ g) refl)
+
+    pub bound_bad : ok ≡ false → misfit a ≡ bound_due s x b a
+    unfolding bound_due
+    bound_bad g = rw (← h, ← f) (if_no _ _ (sym o ∙ g) refl)
+
+module _ (s sv : List ℕ) (bases : List ℤ) (x a : ℕ) where
+  pub step_served : marked sv x ≡ true → bound_due s x (up (at bases x)) a ≡ step_of s sv bases x a
   unfolding step_of
-  step_bound x a pre h e = rw e (if_yes _ _ h (bound_turn s x (up (at bases x)) a pre (record_at s a) refl))
+  step_served h = if_yes _ _ h refl
 
-  pub step_none : (x a : ℕ) (pre : List ℕ) → marked sv x ≡ false → moved (held a pre) (Good a 0) ≡ step_of s sv bases x (held a pre)
+  pub step_none : marked sv x ≡ false → Ok (record { next = a; increment = 0 }) ≡ step_of s sv bases x a
   unfolding step_of
-  step_none x a pre h = if_no _ _ h refl
-
-  summary_then : (f : Found) → record_at s 0 ≡ f
-      → and_bounds s (bounds_at s sv bases 10) (summary_found s (count (marked sv) (length sv)) f) ≡ on_summary s sv bases f
-  unfolding summary_told
-  summary_then F.End e = refl
-  summary_then F.Broken e = refl
-  summary_then (F.Record tag start len next) e =
-      let w = whole s 0 e in
-      let m = and_bounds s (bounds_at s sv bases 10) in
-      rw (part_length s start len (omega arith))
-      (if_map m _ (λ _. if_map m _ (λ h. if_map m _ (λ _. let n : 10 ≡ next = omega arith in rw n) refl) refl) refl)
-
-  pub told_is : and_bounds s (bounds_at s sv bases 10) (summary_found s (count (marked sv) (length sv)) (record_at s 0)) ≡ told_of s sv bases
-  unfolding told_of
-  told_is = summary_then (record_at s 0) refl
+  step_none h = if_no _ _ h refl
 
 -- ---- the loop
 
-module _ (s sv : List ℕ) (bases : List ℤ) (x : ℕ) (l : Ledger) {w : Turn} where
-  goes : (k : ℕ) {t : Turn} {n : Ledger} → read_from s sv bases (suc k) x l ≡ w → t ≡ step_of s sv bases x l → t ≡ Go n → read_from s sv bases k (suc x) n ≡ w
-  goes k i e₁ e₂ = rw (← e₁, e₂) at i
-
-  stops : (k : ℕ) {t : Turn} {a : ℕ} → read_from s sv bases (suc k) x l ≡ w → t ≡ step_of s sv bases x l → t ≡ Stop a → w ≡ Stop a
-  stops k i e₁ e₂ = sym (rw (← e₁, e₂) at i)
-
 -- the components below x are read: what is read from x on is what the definition reads from the front
 pub record Reading (s sv : List ℕ) (bases : List ℤ) (x place : ℕ) (incs : List ℕ) : Type 0 where
-  pub rest : read_from s sv bases (length sv - x) x (held place (take x incs)) ≡ bounds_at s sv bases 10
+  pub rest : read_from s sv bases (length sv - x) x (held place (take x incs)) ≡ bounds_at s sv bases
 
 module _ {s sv : List ℕ} {bases : List ℤ} where
   pub reading_starts : {incs : List ℕ} → Reading s sv bases 0 10 incs
   reading_starts = record { rest = rw sub-zero }
 
   module _ {x a : ℕ} {incs : List ℕ} (r : Reading s sv bases x a incs) (h : x < length sv) where
-    left : read_from s sv bases (suc (length sv - (x + 1))) x (held a (take x incs)) ≡ bounds_at s sv bases 10
+    left : read_from s sv bases (suc (length sv - (x + 1))) x (held a (take x incs)) ≡ bounds_at s sv bases
     left = let n : length sv - x ≡ suc (length sv - (x + 1)) = omega arith in rw n at r.rest
 
-    pub reading_next : {n i : ℕ} {b : Bound} → x < length incs → ((pre : List ℕ) → moved (held a pre) b ≡ step_of s sv bases x (held a pre)) → b ≡ Good n i
-        → Reading s sv bases (x + 1) n (set incs x i)
-    reading_next {n} {i} {b} k e g =
-        let f : moved (held a (take x incs)) b ≡ Go (held n (take x incs ++ (i ∷ []))) = rw g in
-        let q = goes s sv bases x (held a (take x incs)) (length sv - (x + 1)) left (e (take x incs)) f in
-        record { rest = rw (add-one x, take-suc-set incs x i k) (rw (add-one x) at q) }
+    pub reading_next : {b : Bound} → x < length incs → Ok b ≡ step_of s sv bases x a → Reading s sv bases (x + 1) b.next (set incs x b.increment)
+    reading_next {b} k e = record { rest = rw (add-one x, take-suc-set incs x b.increment k) (rw (add-one x, ← e) at left) }
 
-    pub reading_stops : {n : ℕ} {b : Bound} → ((pre : List ℕ) → moved (held a pre) b ≡ step_of s sv bases x (held a pre)) → b ≡ Bad n → bounds_at s sv bases 10 ≡ Stop n
-    reading_stops e g = stops s sv bases x (held a (take x incs)) (length sv - (x + 1)) left (e (take x incs)) (rw g)
+    pub reading_stops : {e : Misfit} → Err e ≡ step_of s sv bases x a → bounds_at s sv bases ≡ Err e
+    reading_stops e = sym (rw (← e) at left)
 
-  pub reading_ends : {x a : ℕ} {incs : List ℕ} → Reading s sv bases x a incs → length sv ≤ x → length incs ≤ x → bounds_at s sv bases 10 ≡ Go (held a incs)
+  pub reading_ends : {x a : ℕ} {incs : List ℕ} → Reading s sv bases x a incs → length sv ≤ x → length incs ≤ x → bounds_at s sv bases ≡ Ok (held a incs)
   reading_ends {x} {a} {incs} r h k = let n : length sv - x ≡ 0 = omega arith in sym (rw (n, take_all x incs k) at r.rest)
-
-module _ {s : List ℕ} {said : Told} {turn : Turn} {a : ℕ} {incs : List ℕ} where
-  pub ended_wrong : turn ≡ Stop a → Ended s said turn (Wrong a) incs
-  ended_wrong e = record { told = rw e; read = λ {l} g. absurd (let z : ◌≡◌ {A = ℕ} 0 1 = cc in omega arith) }
-
-  pub ended_over : turn ≡ Go (held a incs) → a < length s → Ended s said turn (Wrong a) incs
-  ended_over e h = record { told = rw e (if_yes _ _ h refl); read = λ {l} g. ap (λ (t : Turn). incs_on t) (sym e ∙ g) }
-
-  pub ended_all : turn ≡ Go (held a incs) → length s ≤ a → Ended s said turn said incs
-  ended_all e h = record { told = rw e (if_no _ _ h refl); read = λ {l} g. ap (λ (t : Turn). incs_on t) (sym e ∙ g) }
 
 -- ---- the judge
 
-was_read : {s : List ℕ} {said r : Told} {incs : List ℕ} {m t k : ℕ} (turn : Turn) → Ended s said turn r incs → r ≡ Result m t k → incs ≡ incs_on turn
-was_read (Go l) d e = d.read refl
-was_read (Stop a) d e = let f = d.told in absurd (let z : ◌≡◌ {A = ℕ} 0 1 = cc in omega arith)
+module _ {s sv : List ℕ} {bases : List ℤ} {incs : List ℕ} where
+  pub heard_none : {e : Misfit} → Err e ≡ told_of s sv bases → Heard s sv bases (Err e) incs
+  heard_none h = record { told = h; read = λ {y} g. absurd (let z : ◌≡◌ {A = ℕ} 0 1 = cc in omega arith) }
 
-module _ {s sv : List ℕ} {bases : List ℤ} {said : Told} (f : said ≡ summary_found s (count (marked sv) (length sv)) (record_at s 0)) where
-  pub heard_wrong : {a : ℕ} {incs : List ℕ} → said ≡ Wrong a → Heard s sv bases (Wrong a) incs
-  heard_wrong e = record { told = rw (← f, e) at (told_is s sv bases); read = λ {m} {t} {k} g. absurd (let z : ◌≡◌ {A = ℕ} 0 1 = cc in omega arith) }
+  pub summary_refused : {e : Misfit} → Err e ≡ summary_at s (count (marked sv) (length sv)) → Heard s sv bases (Err e) incs
+  unfolding told_of
+  summary_refused h = heard_none (rw (← h))
 
-  pub heard_result : {m t k : ℕ} {r : Told} {incs : List ℕ} → said ≡ Result m t k → Ended s said (bounds_at s sv bases 10) r incs → Heard s sv bases r incs
-  unfolding increments_of
-  heard_result e d = record { told = (rw e at d.told) ∙ (rw (← f, e) at (told_is s sv bases)); read = λ {m} {t} {k} g. was_read (bounds_at s sv bases 10) d g }
+  module _ {y : Summary} (h : Ok y ≡ summary_at s (count (marked sv) (length sv))) where
+    pub bound_refused : {e : Misfit} → bounds_at s sv bases ≡ Err e → Heard s sv bases (Err e) incs
+    unfolding told_of
+    bound_refused g = heard_none (rw (← h, g))
+
+    module _ {a : ℕ} (g : bounds_at s sv bases ≡ Ok (held a incs)) where
+      pub left_over : a < length s → Heard s sv bases (misfit a) incs
+      unfolding told_of
+      left_over l = heard_none (rw (← h, g) (if_yes _ _ l refl))
+
+      pub accepted_all : length s ≤ a → Heard s sv bases (Ok y) incs
+      unfolding told_of increments_of
+      accepted_all l = record { told = rw (← h, g) (if_no _ _ l refl); read = λ {y} _. rw g }
+
+-- ---- what the code's functions want of these
+
+pub ruleset due_laws = (due_is, due_tag, due_len)
+
+pub ruleset summary_laws = (was_due, length_due, summary_missing, summary_good, summary_bad)
+
+pub ruleset bound_laws = (was_due, length_due, bound_missing, bound_good, bound_bad)
+
+pub ruleset step_laws = (step_served, step_none)
+
+pub ruleset reading_laws = (reading_starts, reading_next, reading_stops, reading_ends)
+
+pub ruleset judge_laws = (summary_refused, bound_refused, left_over, accepted_all)

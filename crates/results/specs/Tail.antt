@@ -1,16 +1,12 @@
 -- The bounds as the judge meets them, from the first on, each with the increment that it says; and what an increment may be.
-use Rattle.std.specs.Prelude.{◌≡◌, refl, false, cond, ℤ, get_or}
-use Rattle.std.proofs.Common.{◌∙◌, subst, add-zero, length-append}
-use mathlib.Core.List.{List, [], ◌∷◌, ◌++◌, append_assoc, append-nil}
-use Prim.Native.Nat.{ℕ, zero, suc, ◌+◌, ◌≤◌}
-use native.Mathlib.Omega.{arith}
-use Rattle.std.proofs.Math.Nat.{zero-add}
-use Rattle.std.proofs.Math.ListN.{length}
+use Rattle.std.specs.Prelude.{◌≡◌, refl, false, cond, ℤ, get_or, List, [], ◌∷◌, ◌++◌, ℕ, zero, suc, ◌+◌, ◌≤◌, length}
+use Rattle.std.proofs.Common.{◌∙◌, subst, add-zero, length-append, append_assoc, append-nil, arith, zero-add}
 use Rattle.std.proofs.Math.Seq.{append_snoc}
 use Rattle.std.proofs.lemmas.List.{get_or_at}
 use Rattle.whole.specs.Whole.{up}
 use Rattle.circuit.specs.Lists.{at}
 use Rattle.circuit.specs.Netlist.{marked}
+use Rattle.results.specs.declared.Summary.{Summary}
 use Rattle.results.specs.Result.{summary_of, bound_of, bound_tag, bounds_of, encode}
 
 -- the bytes of component x in a result that says i for it
@@ -70,6 +66,6 @@ module _ (sv : List ℕ) (bases : List ℤ) where
   unfolding bounds_of
   bounds_are incs = rw zero-add at (bounds_tail incs [] 0 refl)
 
-  pub encode_is : (m t k : ℕ) (incs : List ℕ) → length incs ≡ length sv → encode m t k sv bases incs ≡ summary_of m t k ++ tail_of sv bases 0 incs
+  pub encode_is : (y : Summary) (incs : List ℕ) → length incs ≡ length sv → encode y sv bases incs ≡ summary_of y ++ tail_of sv bases 0 incs
   unfolding encode
-  encode_is m t k incs e = rw (← e, bounds_are incs)
+  encode_is y incs e = rw (← e, bounds_are incs)

@@ -1,15 +1,13 @@
 -- A buffer that is written from its front: what stands there already, and behind it what the buffer held before.
 use Rattle.std.specs.Prelude.{◌≡◌, refl, Bool, true, false, cond, List, [], ◌++◌, ℕ, zero, suc, ◌+◌, ◌*◌, ◌-◌, ◌%◌, ◌≤◌, ◌<◌, ℤ, length, get_or, take, drop}
-use Rattle.std.proofs.Math.Path.{sym}
-use Rattle.std.proofs.Common.{ap, ◌∙◌, ⊎_elim, append_assoc, append-nil, eq-or-lt_of_le, add-one, length-append, length-drop, take_all, drop-drop, take_at, drop_at}
-use native.Mathlib.Omega.{arith}
+use Rattle.std.proofs.Common.{sym, ap, ◌∙◌, ⊎_elim, append_assoc, append-nil, eq-or-lt_of_le, add-one, length-append, length-drop, take_all, drop-drop, take_at, drop_at, arith}
 use Rattle.std.proofs.Math.Seq.{drop-length}
 use borrow.Rule.Slice.PartMut.{put_mid, Post-is}
 use Rattle.whole.specs.Whole.{up}
 use Rattle.whole.specs.Bytes.{bytes_of, put_at, put_after, length-bytes}
 use Rattle.circuit.specs.Lists.{at, count}
 use Rattle.circuit.specs.Netlist.{marked}
-use Rattle.marks.specs.Counting.{count_next}
+use Rattle.results.specs.declared.Summary.{Summary}
 use Rattle.results.specs.Result.{summary_of, bound_of, bound_tag, bounds_of, encode, needed}
 use Rattle.results.specs.Columns.{width_at, bound_at}
 
@@ -45,15 +43,15 @@ begun_lent {p} {old} {xs} {ys} {i} {n} src b m w =
 -- ---- one record, put field by field
 
 module _ (d : List ℕ) {d₁ d₂ d₃ d₄ d₅ : List ℕ} where
-  pub summary_put : (m t k : ℕ) → 10 ≤ length d → d₁ ≡ put_at 1 d 0 16 → d₂ ≡ put_at 2 d₁ 1 7 → d₃ ≡ put_at 1 d₂ 3 m → d₄ ≡ put_at 4 d₃ 4 t
-      → d₅ ≡ put_at 2 d₄ 8 k → d₅ ≡ summary_of m t k ++ drop 10 d
+  pub summary_put : (y : Summary) → 10 ≤ length d → d₁ ≡ put_at 1 d 0 16 → d₂ ≡ put_at 2 d₁ 1 7 → d₃ ≡ put_at 1 d₂ 3 y.mode → d₄ ≡ put_at 4 d₃ 4 y.share
+      → d₅ ≡ put_at 2 d₄ 8 y.rounds → d₅ ≡ summary_of y ++ drop 10 d
   unfolding summary_of bytes_of
-  summary_put m t k h e₁ e₂ e₃ e₄ e₅ =
+  summary_put y h e₁ e₂ e₃ e₄ e₅ =
       let b₁ = begun_put 1 16 begun_none (omega arith) e₁ in
       let b₂ = begun_put 2 7 b₁ (omega arith) e₂ in
-      let b₃ = begun_put 1 m b₂ (omega arith) e₃ in
-      let b₄ = begun_put 4 t b₃ (omega arith) e₄ in
-      (begun_put 2 k b₄ (omega arith) e₅).is
+      let b₃ = begun_put 1 y.mode b₂ (omega arith) e₃ in
+      let b₄ = begun_put 4 y.share b₃ (omega arith) e₄ in
+      (begun_put 2 y.rounds b₄ (omega arith) e₅).is
 
   pub bound_put : (tag x b i : ℕ) → tag < 256 → 13 ≤ length d → d₁ ≡ put_at 1 d 0 tag → d₂ ≡ put_at 2 d₁ 1 10 → d₃ ≡ put_at 2 d₂ 3 x → d₄ ≡ put_at 4 d₃ 5 b
       → d₅ ≡ put_at 4 d₄ 9 i → d₅ ≡ bound_of tag x b i ++ drop 13 d
@@ -68,9 +66,9 @@ module _ (d : List ℕ) {d₁ d₂ d₃ d₄ d₅ : List ℕ} where
 
 -- ---- the bounds, one component after the other
 
-pub length-summary : (m t k : ℕ) → length (summary_of m t k) ≡ 10
+pub length-summary : (y : Summary) → length (summary_of y) ≡ 10
 unfolding summary_of bytes_of
-length-summary m t k = refl
+length-summary y = refl
 
 pub length-bound : (tag x b i : ℕ) → length (bound_of tag x b i) ≡ 13
 unfolding bound_of bytes_of
@@ -89,9 +87,10 @@ count_grows f m zero h = let e : m ≡ 0 = omega arith in rw e (omega arith)
 count_grows f m (suc n) h = ⊎_elim (λ e. rw e (omega arith)) (λ l. let r = count_grows f m n (omega arith) in omega arith) (eq-or-lt_of_le h)
 
 pub width_next : (sv : List ℕ) (x : ℕ) → 13 * count (marked sv) (x + 1) ≡ 13 * count (marked sv) x + width_at sv x
-width_next sv x = rw (← count_next (marked sv) x refl refl) (go (marked sv x))
+unfolding count
+width_next sv x = rw add-one (go (marked sv x))
   where
-    go : (b : Bool) → 13 * (count (marked sv) x + cond b 1 0) ≡ 13 * count (marked sv) x + cond b 13 0
+    go : (b : Bool) → 13 * (cond b 1 0 + count (marked sv) x) ≡ 13 * count (marked sv) x + cond b 13 0
     go true = omega arith
     go false = omega arith
 
@@ -128,15 +127,15 @@ module _ {sv : List ℕ} {bases : List ℤ} {incs old : List ℕ} where
   bounding_ends b e = rw (← e, ← b.place) b.begun.is
 
 -- the whole, after the ten bytes of the summary
-pub both_put : {buf ys : List ℕ} (old sv : List ℕ) (bases : List ℤ) (incs : List ℕ) (m t k : ℕ) → buf ≡ summary_of m t k ++ drop 10 old
+pub both_put : {buf ys : List ℕ} (old sv : List ℕ) (bases : List ℤ) (incs : List ℕ) (y : Summary) → buf ≡ summary_of y ++ drop 10 old
     → ys ≡ bounds_of bound_tag sv bases incs (length sv) ++ drop (13 * count (marked sv) (length sv)) (take (length buf - 10) (drop 10 buf))
-    → put_mid 10 (length buf - 10) buf ys ≡ encode m t k sv bases incs ++ drop (needed sv) old
+    → put_mid 10 (length buf - 10) buf ys ≡ encode y sv bases incs ++ drop (needed sv) old
 unfolding encode
-both_put old sv bases incs m t k e w =
-    let b : Begun (summary_of m t k) old 10 _ = record { long = length-summary m t k; is = e } in
+both_put old sv bases incs y e w =
+    let b : Begun (summary_of y) old 10 _ = record { long = length-summary y; is = e } in
     (begun_lent (bounds_of bound_tag sv bases incs (length sv)) b (length-bounds bound_tag sv bases incs (length sv)) w).is
 
-pub length-encode : (m t k : ℕ) (sv : List ℕ) (bases : List ℤ) (incs : List ℕ) → length (encode m t k sv bases incs) ≡ needed sv
+pub length-encode : (y : Summary) (sv : List ℕ) (bases : List ℤ) (incs : List ℕ) → length (encode y sv bases incs) ≡ needed sv
 unfolding encode
-length-encode m t k sv bases incs =
-    rw (length-append (summary_of m t k) (bounds_of bound_tag sv bases incs (length sv)), length-summary m t k, length-bounds bound_tag sv bases incs (length sv))
+length-encode y sv bases incs =
+    rw (length-append (summary_of y) (bounds_of bound_tag sv bases incs (length sv)), length-summary y, length-bounds bound_tag sv bases incs (length sv))

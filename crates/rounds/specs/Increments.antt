@@ -1,5 +1,5 @@
 -- "An increment is final delay less base." (document 01, "Share and rounds"), over lists.
-use Rattle.std.specs.Prelude.{◌≡◌, refl, List, ℕ, ◌<◌, ◌≤◌, ℤ, ◌-ℤ◌, length, get_or}
+use Rattle.std.specs.Prelude.{◌≡◌, refl, Ok, List, ℕ, ◌<◌, ◌≤◌, ℤ, ◌-ℤ◌, length, get_or}
 use Rattle.std.proofs.Common.{sym, ◌∙◌}
 use Rattle.whole.specs.Whole.{up}
 use Rattle.circuit.specs.Netlist.{Netlist, Based}
@@ -12,8 +12,7 @@ use Rattle.circuit.specs.Safe.{Safe}
 use Rattle.circuit.proofs.FinalLaws.{final_done}
 use Rattle.circuit.proofs.BudgetLaws.{start_is}
 use Rattle.circuit.proofs.OutcomeLaws.{OfMode, budget_says, rounds_most}
-use Rattle.rounds.specs.declared.budgets.Outcome.{Outcome}
-use Rattle.rounds.specs.declared.budgets.Outcome.TheVariants.{Budget}
+use Rattle.rounds.specs.declared.budgets.Budget.{Budget}
 use Rattle.rounds.specs.Budgets.{answer_budget, Budgets, Given}
 
 -- the delays f less the delays b
@@ -32,24 +31,24 @@ pub rises_are : {n : Netlist} {b : List ℤ} (f : List ℤ) → Based n b → ri
 unfolding rises_of increments
 rises_are f g = rw g.all
 
-module _ {n : Netlist} {sv : List ℕ} {b : List ℤ} (g : Given n sv b) {m t k : ℕ} {f : List ℤ} {r : Outcome} (a : Budgets m n b f r) (e : r ≡ Budget t k) where
-  budgeted : (l : List ℕ) × (budget_of m n b ≡ C.Budgeted t k l)
-  budgeted = answer_budget (budget_of m n b) (sym e ∙ a.answer)
+module _ {n : Netlist} {sv : List ℕ} {b : List ℤ} (g : Given n sv b) {m : ℕ} {f : List ℤ} {s : Budget} (a : Budgets m n b f (Ok s)) where
+  budgeted : (l : List ℕ) × (budget_of m n b ≡ C.Budgeted s.share s.rounds l)
+  budgeted = answer_budget (budget_of m n b) a.answer
 
-  said : OfMode m n b t k budgeted.0
+  said : OfMode m n b s.share s.rounds budgeted.0
   said = budget_says g.accepted g.based m budgeted.1
 
   final_safe : Safe n f
-  final_safe = let c = clock g.accepted in rw (a.final e) (final_done c (start_is c g.based said.in_time m).safe).safe
+  final_safe = let c = clock g.accepted in rw a.final (final_done c (start_is c g.based said.in_time m).safe).safe
 
   -- there are as many final delays as base delays
   pub budget_all : length f ≡ length b
   budget_all = final_safe.all ∙ sym g.based.all
 
   -- there is a round for each served component at most
-  pub budget_few : k ≤ to_serve n
+  pub budget_few : s.rounds ≤ to_serve n
   budget_few = rounds_most g.accepted g.based m said
 
   -- share, rounds and increments as the code has them
-  pub budget_told : budget_of m n b ≡ C.Budgeted t k (rises_of f b)
-  budget_told = budgeted.1 ∙ rw (said.increments, a.final e, rises_are (final_from n (start_in m n b)) g.based) refl
+  pub budget_told : budget_of m n b ≡ C.Budgeted s.share s.rounds (rises_of f b)
+  budget_told = budgeted.1 ∙ rw (said.increments, a.final, rises_are (final_from n (start_in m n b)) g.based) refl

@@ -1,4 +1,6 @@
 pub mod Sharing
+pub mod Sized
+pub mod Work
 pub mod Round
 pub mod Run
 pub mod Budgets

@@ -1,7 +1,8 @@
 -- What the share's functions ask, and what its loop keeps.
-use Rattle.std.specs.Prelude.{◌≡◌, refl, Bool, true, false, cond, List, ℕ, zero, suc, ◌+◌, ◌-◌, ◌/◌, ◌^◌, ◌<◌, ◌≤◌, eqb, ℤ, length}
+use Rattle.std.specs.Prelude.{◌≡◌, refl, Bool, true, false, cond, List, ℕ, zero, suc, ◌+◌, ◌-◌, ◌*◌, ◌%◌, ◌^◌, ◌<◌, ◌≤◌, eqb, ℤ, length}
 use Rattle.std.proofs.Common.{◌∙◌, arith}
 use Rattle.std.proofs.Math.Nat.{two-pow-succ}
+use Rattle.std.proofs.lemmas.Nat.{pow_pos}
 use Rattle.whole.specs.Range.{Bounded}
 use Rattle.circuit.specs.Netlist.{Netlist, parts}
 use Rattle.circuit.specs.Times.{in_time}
@@ -10,16 +11,13 @@ use Rattle.circuit.specs.Budget.{share_in}
 use Rattle.circuit.proofs.DescentLaws.{length-lifted}
 use Rattle.timing.specs.Ready.{Ready}
 
--- the netlist n with the marks sv and the base delays b, of which less than 2^28 more leaves delays that can be timed; and how long the work
--- arrays for delays and arrivals are
-pub record Sharing (n : Netlist) (sv : List ℕ) (b : List ℤ) (delays arrs : ℕ) : Type 0 where
+-- the netlist n with the marks sv and the base delays b, of which less than 2^28 more leaves delays that can be timed
+pub record Sharing (n : Netlist) (sv : List ℕ) (b : List ℤ) : Type 0 where
   pub ready : Ready n b
   pub lifts : (u : ℕ) → u < 2 ^ 28 → Bounded (2 ^ 29) (lifted sv u b)
   pub marks_all : length sv ≡ parts n
-  pub delays_all : delays ≡ parts n
-  pub arrivals_all : arrs ≡ parts n
 
-pub lifted_ready : {n : Netlist} {sv : List ℕ} {b : List ℤ} {p q : ℕ} → Sharing n sv b p q → (u : ℕ) → u < 2 ^ 28 → Ready n (lifted sv u b)
+pub lifted_ready : {n : Netlist} {sv : List ℕ} {b : List ℤ} → Sharing n sv b → (u : ℕ) → u < 2 ^ 28 → Ready n (lifted sv u b)
 lifted_ready {sv = sv} {b = b} s u h =
     let r = s.ready in
     record { wired = r.wired; times_all = r.times_all; delays_all = length-lifted sv u b ∙ r.delays_all; times_in = r.times_in; delays_in = s.lifts u h }
@@ -55,37 +53,38 @@ due_most false t = omega arith
 
 -- ---- the descent
 
--- k bits are still to be tried, of which `bit` is the first, from t on
-pub record Descending (n : Netlist) (sv : List ℕ) (b : List ℤ) (t bit k : ℕ) : Type 0 where
-  pub first : bit ≡ 2 ^ k / 2
+-- from t on, the bits below k are still to be tried
+pub record Descending (n : Netlist) (sv : List ℕ) (b : List ℤ) (t k : ℕ) : Type 0 where
   pub room : t + 2 ^ k ≤ 2 ^ 28
   pub rest : descend n sv b k t ≡ share_of n sv b
 
-pub descending_starts : {n : Netlist} {sv : List ℕ} {b : List ℤ} → Descending n sv b 0 134217728 28
+pub descending_starts : {n : Netlist} {sv : List ℕ} {b : List ℤ} → Descending n sv b 0 28
 unfolding share_of
-descending_starts = record { first = refl; room = omega arith; rest = refl }
+descending_starts = record { room = omega arith; rest = refl }
 
-half : (k : ℕ) → 2 ^ suc k / 2 ≡ 2 ^ k
-half k = rw (two-pow-succ k) (omega arith)
+-- there is room for the next bit
+pub descending_room : {n : Netlist} {sv : List ℕ} {b : List ℤ} {t k : ℕ} → Descending n sv b t k → 0 < k → t + 2 ^ (k - 1) < 2 ^ 28
+descending_room {k = zero} s h = omega arith
+descending_room {k = suc k} s h = let q : suc k - 1 ≡ k = omega arith in let r = s.room in rw q (omega (arith, two-pow-succ k, pow_pos k))
 
-some : (k : ℕ) → 0 < 2 ^ k
-some zero = omega arith
-some (suc k) = omega (arith, two-pow-succ k, some k)
-
-pub descending_room : {n : Netlist} {sv : List ℕ} {b : List ℤ} {t bit k : ℕ} → Descending n sv b t bit k → 0 < k → t + bit < 2 ^ 28
-descending_room {k = zero} s h = absurd (omega arith)
-descending_room {k = suc k} s h = let f = s.first ∙ half k in let r = s.room in omega (arith, two-pow-succ k, some k)
-
-pub descending_next : {n : Netlist} {sv : List ℕ} {b : List ℤ} {t bit k t' : ℕ} → Descending n sv b t bit k → 0 < k → t' ≡ cond (in_time n (lifted sv (t + bit) b)) (t + bit) t → Descending n sv b t' (bit / 2) (k - 1)
+-- with and without it, the bits below it are left
+step : {n : Netlist} {sv : List ℕ} {b : List ℤ} {t k : ℕ} (c : Bool) → Descending n sv b t k → 0 < k → in_time n (lifted sv (t + 2 ^ (k - 1)) b) ≡ c → Descending n sv b (cond c (t + 2 ^ (k - 1)) t) (k - 1)
 unfolding descend
-descending_next {k = zero} s h e = absurd (omega arith)
-descending_next {n} {sv} {b} {t} {bit} {k = suc k} s h e =
-    let f : bit ≡ 2 ^ k = s.first ∙ half k in
+step {k = zero} c s h e = absurd (omega arith)
+step {n} {sv} {b} {t} {k = suc k} c s h e =
     let q : suc k - 1 ≡ k = omega arith in
-    let g = rw f at e in
-    rw (q, f, g) (record { first = refl; room = kept_room (in_time n (lifted sv (t + 2 ^ k) b)) t (2 ^ k) (2 ^ 28) (rw (← two-pow-succ k) s.room); rest = s.rest })
+    rw (q, ← e, q) (record { room = kept_room (in_time n (lifted sv (t + 2 ^ k) b)) t (2 ^ k) (2 ^ 28) (rw (← two-pow-succ k) s.room); rest = s.rest })
 
-pub descending_ends : {n : Netlist} {sv : List ℕ} {b : List ℤ} {t bit k : ℕ} → Descending n sv b t bit k → k ≤ 0 → t ≡ share_of n sv b
+module _ {n : Netlist} {sv : List ℕ} {b : List ℤ} {t k : ℕ} (s : Descending n sv b t k) (h : 0 < k) where
+  -- the code shifts a 1 to the next bit, and nothing out
+  shifted : 1 * 2 ^ (k - 1) % 4294967296 ≡ 2 ^ (k - 1)
+  shifted = omega (arith, descending_room s h)
+
+  -- it is kept where the circuit is in time with it
+  pub descending_next : (c : Bool) → in_time n (lifted sv (t + 1 * 2 ^ (k - 1) % 4294967296) b) ≡ c → Descending n sv b (cond c (t + 1 * 2 ^ (k - 1) % 4294967296) t) (k - 1)
+  descending_next c e = rw shifted (step c s h (rw shifted at e))
+
+pub descending_ends : {n : Netlist} {sv : List ℕ} {b : List ℤ} {t k : ℕ} → k ≤ 0 → Descending n sv b t k → t ≡ share_of n sv b
 unfolding descend
-descending_ends {k = zero} s h = s.rest
-descending_ends {k = suc k} s h = absurd (omega arith)
+descending_ends {k = zero} h s = s.rest
+descending_ends {k = suc k} h s = absurd (omega arith)

@@ -1,75 +1,34 @@
 // The share, by descent over 28 bits: a bit is kept where the circuit is in time with it.
-ghost use Rattle.std.specs.Prelude.{◌≡◌, cond, ◌+◌, ◌<◌, ◌≤◌, ◌^◌, length};
-ghost use Rattle.circuit.specs.Netlist.{netlist};
+ghost use Rattle.std.specs.Prelude.{◌≡◌, ◌<◌, ◌^◌, length};
+ghost use Rattle.circuit.specs.Columns.{netlist_of};
 ghost use Rattle.circuit.specs.Times.{in_time};
 ghost use Rattle.circuit.specs.Share.{lifted, share_of};
-ghost use Rattle.rounds.specs.Sharing.{Sharing};
 
+use crate::cases::Case;
 use crate::lifts::lift;
 
-// With t more for each who is served, worked out in d and arr.
-fn fits(
-    d: &mut [i32],
-    arr: &mut [i64],
-    base: &[i32],
-    served: &[u8],
-    kinds: &[u8],
-    times: &[i32],
-    from: &[u16],
-    to: &[u16],
-    t: u32,
-) -> bool
-    requires sharing { Sharing (netlist kinds.now times.now from.now to.now) served.now base.now (length d.old) (length arr.old) }
-    requires t_bound { t < 2 ^ 28 }
-    ensures { result ≡ in_time (netlist kinds.now times.now from.now to.now) (lifted served.now t base.now) }
-{
-    lift(d, base, served, t);
-    timing::in_time(arr, kinds, times, d, from, to)
-}
+impl Case<'_> {
+    // With t more for each who is served, worked out in d and arr.
+    fn fits(self, d: &mut [i32], arr: &mut [i64], t: u32) -> bool
+        requires lengths { (length d.old ≡ length self.circuit.kinds.now) × (length arr.old ≡ length self.circuit.kinds.now) }
+        requires t_bound { t < 2 ^ 28 }
+        ensures { result ≡ in_time (netlist_of self.entry.circuit) (lifted self.entry.served.now t self.entry.base.now) }
+    {
+        lift(d, self.base, self.served, t);
+        timing::in_time(arr, self.circuit, d)
+    }
 
-fn with_bit(
-    d: &mut [i32],
-    arr: &mut [i64],
-    base: &[i32],
-    served: &[u8],
-    kinds: &[u8],
-    times: &[i32],
-    from: &[u16],
-    to: &[u16],
-    t: u32,
-    bit: u32,
-) -> u32
-    requires sharing { Sharing (netlist kinds.now times.now from.now to.now) served.now base.now (length d.old) (length arr.old) }
-    requires bit_bound { t + bit < 2 ^ 28 }
-    ensures { result ≡ cond (in_time (netlist kinds.now times.now from.now to.now) (lifted served.now (t + bit) base.now)) (t + bit) t }
-{
-    if fits(d, arr, base, served, kinds, times, from, to, t + bit) {
-        t + bit
-    } else {
+    pub fn share(self, d: &mut [i32], arr: &mut [i64]) -> u32
+        requires { (length d.old ≡ length self.circuit.kinds.now) × (length arr.old ≡ length self.circuit.kinds.now) }
+        ensures { result ≡ share_of (netlist_of self.entry.circuit) self.entry.served.now self.entry.base.now }
+    {
+        let mut t = 0;
+        for k in (0..28u32).rev() {
+            let more = t + (1 << k);
+            if self.fits(d, arr, more) {
+                t = more;
+            }
+        }
         t
     }
-}
-
-pub fn share(
-    d: &mut [i32],
-    arr: &mut [i64],
-    base: &[i32],
-    served: &[u8],
-    kinds: &[u8],
-    times: &[i32],
-    from: &[u16],
-    to: &[u16],
-) -> u32
-    requires { Sharing (netlist kinds.now times.now from.now to.now) served.now base.now (length d.old) (length arr.old) }
-    ensures { result ≡ share_of (netlist kinds.now times.now from.now to.now) served.now base.now }
-{
-    let mut t: u32 = 0;
-    let mut bit: u32 = 134_217_728;
-    let mut k: u32 = 28;
-    while 0 < k {
-        t = with_bit(d, arr, base, served, kinds, times, from, to, t, bit);
-        bit /= 2;
-        k -= 1;
-    }
-    t
 }

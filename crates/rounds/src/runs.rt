@@ -1,31 +1,24 @@
 // The rounds, one after the other.
 ghost use Rattle.std.specs.Prelude.{◌≡◌, length};
-ghost use Rattle.circuit.specs.Netlist.{netlist, served_of};
+ghost use Rattle.circuit.specs.Columns.{netlist_of};
+ghost use Rattle.circuit.specs.Netlist.{served_of};
 ghost use Rattle.circuit.specs.Times.{Accepted};
 ghost use Rattle.circuit.specs.Rounds.{Run};
 ghost use Rattle.circuit.specs.Safe.{Safe};
-ghost use Rattle.rounds.specs.Round.{Desk};
+ghost use Rattle.rounds.specs.Work.{Kept};
 
 use crate::turns::round;
+use crate::work::Work;
+use circuit::Circuit;
 
 // Round after round until no served component has positive slack: how many. Each round leaves fewer that have it, so that no limit is needed.
-pub fn run(
-    d: &mut [i32],
-    arr: &mut [i64],
-    req: &mut [i64],
-    seg: &mut [u16],
-    served: &[u8],
-    kinds: &[u8],
-    times: &[i32],
-    from: &[u16],
-    to: &[u16],
-) -> usize
-    requires accepted { Accepted (netlist kinds.now times.now from.now to.now) × Safe (netlist kinds.now times.now from.now to.now) d.old × (served.now ≡ served_of kinds.now) }
-    requires desk { Desk (length kinds.now) (length served.now) (length arr.old) (length req.old) (length seg.old) }
-    ensures { Run (netlist kinds.now times.now from.now to.now) (served_of kinds.now) d.old d.new result }
+pub fn run(work: &mut Work<'_>, served: &[u8], circuit: Circuit<'_>) -> usize
+    requires { Accepted (netlist_of circuit) × Safe (netlist_of circuit) work.old.delays.now × (served.now ≡ served_of circuit.kinds.now) }
+    ensures run { Run (netlist_of circuit.entry) (served_of circuit.entry.kinds.now) work.old.delays.now work.new.delays.now result }
+    ensures kept { Kept work.old work.new }
 {
     let mut count = 0;
-    while round(d, arr, req, seg, served, kinds, times, from, to) {
+    while round(work, served, circuit) {
         count += 1;
     }
     count

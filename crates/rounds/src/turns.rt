@@ -1,48 +1,31 @@
 // One round.
-ghost use Rattle.circuit.specs.Netlist.{netlist};
 ghost use Rattle.std.specs.Prelude.{◌≡◌, length};
-ghost use Rattle.rounds.specs.Round.{Desk, Steady, Chose, Rounded};
+ghost use Rattle.circuit.specs.Columns.{netlist_of};
+ghost use Rattle.rounds.specs.Work.{Kept};
+ghost use Rattle.rounds.specs.Round.{Steady, Rounded};
 
-// This round's times, and the component that it starts from, or the component count.
-fn choose_in(
-    arr: &mut [i64],
-    req: &mut [i64],
-    served: &[u8],
-    kinds: &[u8],
-    times: &[i32],
-    d: &[i32],
-    from: &[u16],
-    to: &[u16],
-) -> usize
-    requires { Steady (netlist kinds.now times.now from.now to.now) d.now × (length served.now ≡ length kinds.now) × (length arr.old ≡ length kinds.now) × (length req.old ≡ length kinds.now) }
-    ensures { Chose (netlist kinds.now times.now from.now to.now) served.now d.now arr.new req.new result }
-{
-    timing::arrivals_in(arr, kinds, times, d, from, to);
-    timing::required_in(req, kinds, times, d, from, to);
-    segments::choose(served, arr, req)
-}
+use crate::work::Work;
+use circuit::Circuit;
+use timing::Times;
 
-// Whether there was a round to do.
-pub fn round(
-    d: &mut [i32],
-    arr: &mut [i64],
-    req: &mut [i64],
-    seg: &mut [u16],
-    served: &[u8],
-    kinds: &[u8],
-    times: &[i32],
-    from: &[u16],
-    to: &[u16],
-) -> bool
-    requires steady { Steady (netlist kinds.now times.now from.now to.now) d.old }
-    requires desk { Desk (length kinds.now) (length served.now) (length arr.old) (length req.old) (length seg.old) }
-    ensures { Rounded (netlist kinds.now times.now from.now to.now) served.now d.old d.new result }
+// Whether there was a round to do: a component to start from.
+pub fn round(work: &mut Work<'_>, served: &[u8], circuit: Circuit<'_>) -> bool
+    requires steady { Steady (netlist_of circuit) work.old.delays.now }
+    requires marks { length served.now ≡ length circuit.kinds.now }
+    ensures rounded { Rounded (netlist_of circuit.entry) served.now work.old.delays.now work.new.delays.now result }
+    ensures kept { Kept work.old work.new }
 {
-    let x = choose_in(arr, req, served, kinds, times, d, from, to);
-    if x < kinds.len() {
-        segments::spend_at(d, seg, from, to, served, arr, req, x);
-        true
-    } else {
-        false
-    }
+    let d = &mut *work.delays;
+    let arr = &mut *work.arrivals;
+    let req = &mut *work.required;
+    timing::times_at(arr, req, circuit, d);
+    let times = Times {
+        arrivals: arr,
+        required: req,
+    };
+    let Some(x) = segments::choose(served, times) else {
+        return false;
+    };
+    segments::spend_at(d, work.segment, circuit, served, times, x);
+    true
 }

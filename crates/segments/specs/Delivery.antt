@@ -24,7 +24,7 @@ one x xs s k d e = rw (← e)
 
 pub giving_next : {xs : List ℕ} {s₀ : ℕ} {d₀ d d' : List ℤ} {i s s' : ℕ} → Giving xs s₀ d₀ d i s → i < length xs
     → s' ≡ s - s / (length xs - i) → d' ≡ set d (get_or xs i 0) (at d (get_or xs i 0) +ℤ pos (s / (length xs - i))) → Giving xs s₀ d₀ d' (i + 1) s'
-giving_next {xs} {s₀} {d₀} {d} {d'} {i} {s} o h q e =
+giving_next {xs} {s₀} {d₀} {d} {i = i} {s = s} o h q e =
     let x = get_or xs i 0 in
     let k = length xs - i in
     let l = div-le_self s k in

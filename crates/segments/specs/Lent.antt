@@ -3,19 +3,12 @@
 use Rattle.std.specs.Prelude.{◌≡◌, List, ℕ, ◌<◌, ◌^◌, ℤ, length, get_or}
 use Rattle.whole.specs.Range.{Bounded}
 use Rattle.circuit.specs.Netlist.{Wired}
-use Rattle.timing.specs.Ready.{Gauged}
 
 -- connections, delays and times of the same components
-pub record Laid (fs ts : List ℕ) (d a r : List ℤ) : Type 0 where
+pub record Laid (fs ts : List ℕ) (d a : List ℤ) : Type 0 where
   pub wires : Wired fs ts (length d)
-  pub times : Gauged a r
   pub times_all : length a ≡ length d
   pub delays_in : Bounded (2 ^ 29) d
-
--- and their marks
-pub record Loaded (fs ts sv : List ℕ) (d a r : List ℤ) : Type 0 where
-  pub laid : Laid fs ts d a r
-  pub marks_all : length sv ≡ length d
 
 -- numbers of components only; past its end a list has 0, which is one
 pub record Inside (l : List ℕ) (n : ℕ) : Type 0 where

@@ -1,5 +1,6 @@
--- What the functions ask of what they are lent (Lent), and what their loops keep: filling, counting, the choice, the walks, the delivery.
+-- What the functions ask of what they are lent (Lent), what the walks are by it (Timed), and what their loops keep: the choice, the walks, the delivery.
 pub mod Lent
+pub mod Timed
 pub mod Choice
 pub mod Walk
 pub mod Delivery

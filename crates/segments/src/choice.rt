@@ -1,50 +1,42 @@
-// The component that a round starts from; the component count where there is none.
-ghost use Rattle.std.specs.Prelude.{◌≡◌, cond, ◌<◌, ◌≤◌, length};
+// The component that a round starts from.
+ghost use Rattle.std.specs.Prelude.{◌≡◌, ◌<◌, IfSome, length, unwrap_or};
+ghost use Rattle.circuit.specs.Lists.{below};
 ghost use Rattle.circuit.specs.Rounds.{beats, choice_of, positive};
-ghost use Rattle.timing.specs.Ready.{Gauged};
 
-fn is_positive(served: &[u8], arr: &[i64], req: &[i64], x: usize) -> bool
-    requires { Gauged arr.now req.now × (length arr.now ≡ length served.now) × (x < length served.now) }
-    ensures { result ≡ positive served.now arr.now req.now x }
+use timing::Times;
+
+// x is served and has positive slack. A mark is a byte here, in the steps and in the rounds, since they take lists with any: a `bool` would ask more.
+#[tactic(auto, unfolding(circuit::specs::Rounds::positive))]
+fn is_positive(served: &[u8], times: Times<'_>, x: usize) -> bool
+    requires { (length times.arrivals.now ≡ length served.now) × (x < length served.now) }
+    ensures { result ≡ positive served.now times.entry.arrivals.now times.entry.required.now x }
 {
-    if served[x] == 1 {
-        whole::less(0, timing::slack_at(arr, req, x))
-    } else {
-        false
-    }
+    served[x] == 1 && 0 < times.slack_at(x)
 }
 
-fn better(served: &[u8], arr: &[i64], req: &[i64], x: usize, b: usize) -> bool
-    requires { Gauged arr.now req.now × (length arr.now ≡ length served.now) × (x < length served.now) × (b ≤ length served.now) }
-    ensures { result ≡ beats served.now arr.now req.now x b }
+// x is taken over the best before it.
+#[tactic(auto, unfolding(circuit::specs::Rounds::beats, circuit::specs::Rounds::positive))]
+fn is_better(served: &[u8], times: Times<'_>, x: usize, best: Option<usize>) -> bool
+    requires { (length times.arrivals.now ≡ length served.now) × (x < length served.now) × IfSome best (λ b. b < length served.now) }
+    ensures { result ≡ beats served.now times.entry.arrivals.now times.entry.required.now x (unwrap_or best (length served.now)) }
 {
-    if is_positive(served, arr, req, x) {
-        if b == served.len() {
-            true
-        } else {
-            whole::less(timing::slack_at(arr, req, x), timing::slack_at(arr, req, b))
+    is_positive(served, times, x)
+        && match best {
+            Some(b) => times.slack_at(x) < times.slack_at(b),
+            None => true,
         }
-    } else {
-        false
-    }
 }
 
-fn keep(served: &[u8], arr: &[i64], req: &[i64], x: usize, b: usize) -> usize
-    requires { Gauged arr.now req.now × (length arr.now ≡ length served.now) × (x < length served.now) × (b ≤ length served.now) }
-    ensures { result ≡ cond (beats served.now arr.now req.now x b) x b }
+// Of the served with positive slack, one of least slack, and the lowest of these.
+pub fn choose(served: &[u8], times: Times<'_>) -> Option<usize>
+    requires { length times.arrivals.now ≡ length served.now }
+    ensures { result ≡ below (length served.now) (choice_of served.now times.entry.arrivals.now times.entry.required.now (length served.now)) }
 {
-    if better(served, arr, req, x, b) { x } else { b }
-}
-
-pub fn choose(served: &[u8], arr: &[i64], req: &[i64]) -> usize
-    requires { Gauged arr.now req.now × (length arr.now ≡ length served.now) }
-    ensures { result ≡ choice_of served.now arr.now req.now (length served.now) }
-{
-    let mut b = served.len();
-    let mut i = 0;
-    while i < served.len() {
-        b = keep(served, arr, req, i, b);
-        i += 1;
+    let mut best = None;
+    for x in 0..served.len() {
+        if is_better(served, times, x, best) {
+            best = Some(x);
+        }
     }
-    b
+    best
 }

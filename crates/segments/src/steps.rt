@@ -1,124 +1,79 @@
-// One step of a walk, each way: the first connection that goes on, and the component at its other end, or the component count. What searches
-// the connections stands behind `next` and `previous`, whose contracts do not say how.
-ghost use Rattle.std.specs.Prelude.{◌≡◌, ◌&&◌, ◌-◌, ◌<◌, ◌^◌, ◌+ℤ◌, length};
-ghost use Rattle.whole.specs.Whole.{eq_z};
-ghost use Rattle.whole.specs.Range.{Within, Bounded};
-ghost use Rattle.circuit.specs.Netlist.{marked};
-ghost use Rattle.circuit.specs.Rounds.{level, leads, after, feeds, before};
-ghost use Rattle.timing.specs.Ready.{Gauged};
-ghost use Rattle.segments.specs.Lent.{Laid, Loaded};
+// One step of a walk, each way: the first connection that goes on, and the component at its other end.
+ghost use Rattle.std.specs.Prelude.{◌≡◌, ◌&&◌, ◌<◌, ◌^◌, length};
+ghost use Rattle.whole.specs.Range.{Bounded};
+ghost use Rattle.circuit.specs.Lists.{below};
+ghost use Rattle.circuit.specs.Rounds.{level};
+ghost use Rattle.segments.specs.Lent.{Laid};
 
-use crate::index::wide;
+use timing::Times;
 
-// y is x and e.
-fn is_sum(y: i64, x: i64, e: i32) -> bool
-    requires { Within (2 ^ 61) x × Within (2 ^ 29) e }
-    ensures { result ≡ eq_z y (x +ℤ e) }
-{
-    whole::same(y, whole::add(x, whole::of_i32(e)))
+// Connections, delays and times of the same components. The marks are lent to each step that needs them: in here they would be asked of all.
+#[derive(Clone, Copy)]
+pub struct Timed<'a> {
+    pub from: &'a [u16],
+    pub to: &'a [u16],
+    pub delays: &'a [i32],
+    pub times: Times<'a>,
+    pub ghost laid: { Laid from.now to.now delays.now times.arrivals.now },
 }
 
-fn is_level(d: &[i32], z: &[i64], f: u16, t: u16) -> bool
-    requires { (f < length d.now) × (t < length d.now) × (length z.now ≡ length d.now) × Bounded (2 ^ 61) z.now × Bounded (2 ^ 29) d.now }
-    ensures { result ≡ level d.now z.now f t }
+// An equality of the times z, arrivals or required times, on the connection from f to t. Its bounds are of the columns that it reads.
+#[tactic(auto, unfolding(circuit::specs::Rounds::level, whole::specs::Whole::eq_z))]
+fn is_level(delays: &[i32], z: &[i64], f: u16, t: u16) -> bool
+    requires { (f < length delays.now) × (t < length delays.now) × (length z.now ≡ length delays.now) × Bounded (2 ^ 61) z.now × Bounded (2 ^ 29) delays.now }
+    ensures { result ≡ level delays.now z.now f t }
 {
-    is_sum(z[t as usize], z[f as usize], d[t as usize])
+    z[usize::from(t)] == z[usize::from(f)] + i64::from(delays[usize::from(t)])
 }
 
-// Both equalities hold.
-fn is_taut(d: &[i32], arr: &[i64], req: &[i64], f: u16, t: u16) -> bool
-    requires { Gauged arr.now req.now × (length arr.now ≡ length d.now) × Bounded (2 ^ 29) d.now × (f < length d.now) × (t < length d.now) }
-    ensures { result ≡ level d.now req.now f t && level d.now arr.now f t }
-{
-    if is_level(d, req, f, t) {
-        is_level(d, arr, f, t)
-    } else {
-        false
+impl Timed<'_> {
+    ghost use Rattle.segments.specs.Timed.{leads_in, feeds_in, after_in, before_in};
+
+    // Both equalities hold.
+    fn is_taut(self, f: u16, t: u16) -> bool
+        requires { (f < length self.delays.now) × (t < length self.delays.now) }
+        ensures { result ≡ level self.entry.delays.now self.entry.times.required.now f t && level self.entry.delays.now self.entry.times.arrivals.now f t }
+    {
+        is_level(self.delays, self.times.required, f, t)
+            && is_level(self.delays, self.times.arrivals, f, t)
     }
-}
 
-fn leads_on(
-    from: &[u16],
-    to: &[u16],
-    d: &[i32],
-    arr: &[i64],
-    req: &[i64],
-    x: usize,
-    j: usize,
-) -> bool
-    requires { Laid from.now to.now d.now arr.now req.now × (j < length from.now) }
-    ensures { result ≡ leads from.now to.now d.now arr.now req.now x j }
-{
-    if wide(from[j]) == x {
-        is_taut(d, arr, req, from[j], to[j])
-    } else {
-        false
+    // Connection j leads on from x.
+    #[tactic(auto, unfolding(circuit::specs::Rounds::leads))]
+    fn leads_on(self, x: usize, j: usize) -> bool
+        requires { j < length self.from.now }
+        ensures { result ≡ leads_in self.entry x j }
+    {
+        usize::from(self.from[j]) == x && self.is_taut(self.from[j], self.to[j])
     }
-}
 
-fn is_served(served: &[u8], x: u16) -> bool
-    requires { x < length served.now }
-    ensures { result ≡ marked served.now x }
-{
-    served[x as usize] == 1
-}
-
-fn feeds_in(
-    from: &[u16],
-    to: &[u16],
-    served: &[u8],
-    d: &[i32],
-    arr: &[i64],
-    req: &[i64],
-    x: usize,
-    j: usize,
-) -> bool
-    requires { Loaded from.now to.now served.now d.now arr.now req.now × (j < length from.now) }
-    ensures { result ≡ feeds from.now to.now served.now d.now arr.now req.now x j }
-{
-    if wide(to[j]) == x {
-        if is_served(served, from[j]) {
-            is_taut(d, arr, req, from[j], to[j])
-        } else {
-            false
-        }
-    } else {
-        false
+    // Connection j comes to x from a served component, by the byte among the marks.
+    #[tactic(auto, unfolding(circuit::specs::Rounds::feeds))]
+    fn feeds_in(self, served: &[u8], x: usize, j: usize) -> bool
+        requires { (j < length self.from.now) × (length served.now ≡ length self.delays.now) }
+        ensures { result ≡ feeds_in self.entry served.now x j }
+    {
+        usize::from(self.to[j]) == x
+            && served[usize::from(self.from[j])] == 1
+            && self.is_taut(self.from[j], self.to[j])
     }
-}
 
-pub fn next(from: &[u16], to: &[u16], d: &[i32], arr: &[i64], req: &[i64], x: usize) -> usize
-    requires { Laid from.now to.now d.now arr.now req.now }
-    ensures { result ≡ after from.now to.now d.now arr.now req.now x }
-{
-    let mut j = 0;
-    while j < from.len() {
-        if leads_on(from, to, d, arr, req, x, j) {
-            return wide(to[j]);
-        }
-        j += 1;
+    // The component after x on a walk forward.
+    pub fn next(self, x: usize) -> Option<usize>
+        ensures { result ≡ below (length self.entry.delays.now) (after_in self.entry x) }
+    {
+        (0..self.from.len())
+            .find(|&j| self.leads_on(x, j))
+            .map(|j| usize::from(self.to[j]))
     }
-    d.len()
-}
 
-pub fn previous(
-    from: &[u16],
-    to: &[u16],
-    served: &[u8],
-    d: &[i32],
-    arr: &[i64],
-    req: &[i64],
-    x: usize,
-) -> usize
-    requires { Loaded from.now to.now served.now d.now arr.now req.now }
-    ensures { result ≡ before from.now to.now served.now d.now arr.now req.now x }
-{
-    let mut j = 0;
-    while j < from.len() {
-        if feeds_in(from, to, served, d, arr, req, x, j) {
-            return wide(from[j]);
-        }
-        j += 1;
+    // The component before x on a walk backward. One function for both ways would ask marks of `next` too, which needs none.
+    pub fn previous(self, served: &[u8], x: usize) -> Option<usize>
+        requires { length served.now ≡ length self.delays.now }
+        ensures { result ≡ below (length self.entry.delays.now) (before_in self.entry served.now x) }
+    {
+        (0..self.from.len())
+            .find(|&j| self.feeds_in(served, x, j))
+            .map(|j| usize::from(self.from[j]))
     }
-    d.len()
 }

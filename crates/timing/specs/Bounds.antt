@@ -7,7 +7,7 @@ use Rattle.whole.specs.Range.{Within, within_more, within_sum, within_diff, with
 use Rattle.circuit.specs.Lists.{at, tabulate}
 use Rattle.circuit.proofs.ListLaws.{length-tabulate, get_or-tabulate}
 use Rattle.circuit.specs.Netlist.{Netlist, parts}
-use Rattle.circuit.specs.Times.{Way, step, sweep, order, anchor, forward, backward, arrivals, requireds}
+use Rattle.circuit.specs.Times.{Way, never, ever, step, sweep, order, anchor, forward, backward, arrivals, requireds}
 use Rattle.circuit.proofs.TimesLaws.{length-order, length-arrivals, length-requireds}
 use Rattle.timing.specs.Ready.{Ready, Gauged}
 use Rattle.timing.specs.Sweep.{Sweeping}
@@ -58,6 +58,13 @@ anchor_bounded {tm} {z} ks k n b h = tabulate_bounded _ (2 ^ 60) (λ x. by x (eq
     by : (x : ℕ) (t : Bool) → Within (2 ^ 60) (cond t (at tm x) z)
     by x true = within_more (omega arith) (b.at x)
     by x false = h
+
+-- no time yet, in either direction
+pub never_within : Within (2 ^ 60) never
+never_within = omega arith
+
+pub ever_within : Within (2 ^ 60) ever
+ever_within = omega arith
 
 -- ---- the times
 

@@ -3,10 +3,12 @@
 #![tactic(auto)]
 
 ghost use Rattle.std.specs.Prelude.{◌≡◌, ◌+◌, ◌*◌, ◌<◌, ◌≤◌, length};
-ghost use Rattle.segments.specs.Lent.{Loaded};
 
 use hozbantir::Answer;
-use std::io;
+use segments::Timed;
+use std::{fmt, io};
+use timing::Times;
+use whole::BigEndian;
 
 // A line is a record: a component's kind, base delay and time, or where a connection comes from and goes to.
 const CIRCUIT_A: [u8; 69] = *b"\
@@ -30,43 +32,15 @@ const CIRCUIT_C: [u8; 76] = *b"\
 
 // ---- the output
 
-fn number(rt: &impl Print, x: u64) -> io::Result<()> {
-    print!(rt; " {x}")
-}
-
-fn signed(rt: &impl Print, x: i32) -> io::Result<()> {
-    print!(rt; " {x}")
-}
-
-fn end_line(rt: &impl Print) -> io::Result<()> {
+fn numbers<T: fmt::Display>(rt: &impl Print, numbers: &[T]) -> io::Result<()> {
+    for x in numbers {
+        print!(rt; " {x}")?;
+    }
     println!(rt)
 }
 
 fn answer(rt: &impl Print, a: Answer) -> io::Result<()> {
-    number(rt, hozbantir::number(a) as u64)?;
-    number(rt, hozbantir::place(a) as u64)
-}
-
-fn slacks(rt: &impl Print, numbers: &[i32]) -> io::Result<()> {
-    let mut i = 0;
-    while i < numbers.len() {
-        signed(rt, numbers[i])?;
-        i += 1;
-    }
-    end_line(rt)
-}
-
-fn bound(rt: &impl Print, x: u32) -> io::Result<()> {
-    number(rt, x as u64)
-}
-
-fn bounds(rt: &impl Print, numbers: &[u32]) -> io::Result<()> {
-    let mut i = 0;
-    while i < numbers.len() {
-        bound(rt, numbers[i])?;
-        i += 1;
-    }
-    end_line(rt)
+    print!(rt; " {} {}", hozbantir::number(a), hozbantir::place(a))
 }
 
 // ---- the calls
@@ -77,7 +51,7 @@ fn analysed(rt: &impl Print, netlist: &[u8]) -> io::Result<()> {
     let a = hozbantir::analyse(netlist, &mut buffer);
     print!(rt; "slacks")?;
     answer(rt, a)?;
-    slacks(rt, &buffer)
+    numbers(rt, &buffer)
 }
 
 // The result, read back into a buffer of sevens.
@@ -86,18 +60,16 @@ fn read(rt: &impl Print, netlist: &[u8], res: &[u8]) -> io::Result<()> {
     let a = hozbantir::read_back(netlist, res, &mut buffer);
     print!(rt; "bounds")?;
     answer(rt, a)?;
-    bounds(rt, &buffer)
+    numbers(rt, &buffer)
 }
 
 // What the summary says.
 fn summary(rt: &impl Print, res: &[u8]) -> io::Result<()>
     requires { 10 ≤ length res.now }
 {
-    print!(rt; " share")?;
-    number(rt, whole::u32_at(res, 4) as u64)?;
-    print!(rt; " rounds")?;
-    number(rt, whole::u16_at(res, 8) as u64)?;
-    end_line(rt)
+    let share = u32::at(res, 4);
+    let rounds = u16::at(res, 8);
+    println!(rt; " share {share} rounds {rounds}")
 }
 
 fn told(rt: &impl Print, netlist: &[u8], res: &[u8]) -> io::Result<()>
@@ -109,13 +81,12 @@ fn told(rt: &impl Print, netlist: &[u8], res: &[u8]) -> io::Result<()>
 
 fn budgeted_in(rt: &impl Print, mode: u32, netlist: &[u8], res: &mut [u8]) -> io::Result<()> {
     let a = hozbantir::budget(mode, netlist, res);
-    print!(rt; "mode")?;
-    number(rt, mode as u64)?;
+    print!(rt; "mode {mode}")?;
     answer(rt, a)?;
-    if hozbantir::number(a) != 0 {
-        return end_line(rt);
+    match a {
+        Ok(bytes) => told(rt, netlist, &res[..bytes]),
+        Err(_) => println!(rt),
     }
-    told(rt, netlist, &res[..hozbantir::place(a)])
 }
 
 fn budgeted(rt: &impl Print, mode: u32, netlist: &[u8]) -> io::Result<()> {
@@ -149,72 +120,46 @@ fn show_b(rt: &impl Print, required: u8) -> io::Result<()> {
 
 // ---- the walk
 
-fn name(rt: &impl Print, x: u16) -> io::Result<()> {
-    print!(rt; "{x}")
-}
-
-fn next_name(rt: &impl Print, x: u16) -> io::Result<()> {
-    print!(rt; " ")?;
-    name(rt, x)
-}
-
-// The components from place start on, before place end.
-fn segment(rt: &impl Print, seg: &[u16], start: usize, end: usize) -> io::Result<()>
-    requires { (start < end) × (end ≤ length seg.now) }
+fn segment(rt: &impl Print, seg: &[u16]) -> io::Result<()>
+    requires { 0 < length seg.now }
 {
-    name(rt, seg[start])?;
-    let mut i = start + 1;
-    while i < end {
-        next_name(rt, seg[i])?;
-        i += 1;
-    }
-    end_line(rt)
-}
-
-fn walk_on(
-    rt: &impl Print,
-    seg: &mut [u16],
-    from: &[u16],
-    to: &[u16],
-    served: &[u8],
-    d: &[i32],
-    arr: &[i64],
-    req: &[i64],
-    x: usize,
-) -> io::Result<()>
-    requires loaded { Loaded from.now to.now served.now d.now arr.now req.now }
-    requires x_in_bounds { (x < length d.now) × (length d.now ≤ 1024) × (length seg.old ≡ 2 * length d.now + 1) }
-{
-    let span = segments::walk(seg, from, to, served, d, arr, req, x);
-    segment(rt, seg, span.start, span.end)
+    let (first, rest) = seg.split_first().unwrap();
+    print!(rt; "{first}")?;
+    numbers(rt, rest)
 }
 
 // The walk from x in circuit D, at given delays, arrivals and required times.
+#[tactic(auto, using(crate::proofs::Segments::segment_some))]
 fn walk_d(rt: &impl Print, x: usize) -> io::Result<()>
     requires { x < 4 }
 {
-    let from: [u16; 3] = [2, 3, 0];
-    let to: [u16; 3] = [1, 2, 3];
-    let served: [u8; 4] = [0, 1, 1, 1];
-    let d: [i32; 4] = [0, 2, 3, 4];
-    let arr: [i64; 4] = [0, 9, 7, 4];
-    let req: [i64; 4] = [6, 15, 13, 10];
-    let mut seg = [0u16; 9];
-    walk_on(rt, &mut seg, &from, &to, &served, &d, &arr, &req, x)
+    let timed = Timed {
+        from: &[2, 3, 0],
+        to: &[1, 2, 3],
+        delays: &[0, 2, 3, 4],
+        times: Times {
+            arrivals: &[0, 9, 7, 4],
+            required: &[6, 15, 13, 10],
+        },
+    };
+    segment(rt, timed.walk(&[0, 1, 1, 1], &mut [0; 9], x))
 }
 
 // The same in circuit E, where the walk back has four connections to choose from.
+#[tactic(auto, using(crate::proofs::Segments::segment_some))]
 fn walk_e(rt: &impl Print, x: usize) -> io::Result<()>
     requires { x < 8 }
 {
-    let from: [u16; 9] = [2, 3, 4, 5, 0, 6, 6, 6, 3];
-    let to: [u16; 9] = [1, 1, 1, 1, 2, 3, 4, 5, 7];
-    let served: [u8; 8] = [0, 1, 1, 1, 1, 1, 0, 1];
-    let d: [i32; 8] = [0, 2, 3, 3, 3, 3, 0, 1];
-    let arr: [i64; 8] = [0, 6, 3, 4, 4, 4, 1, 5];
-    let req: [i64; 8] = [4, 9, 7, 5, 7, 7, 2, 6];
-    let mut seg = [0u16; 17];
-    walk_on(rt, &mut seg, &from, &to, &served, &d, &arr, &req, x)
+    let timed = Timed {
+        from: &[2, 3, 4, 5, 0, 6, 6, 6, 3],
+        to: &[1, 1, 1, 1, 2, 3, 4, 5, 7],
+        delays: &[0, 2, 3, 3, 3, 3, 0, 1],
+        times: Times {
+            arrivals: &[0, 6, 3, 4, 4, 4, 1, 5],
+            required: &[4, 9, 7, 5, 7, 7, 2, 6],
+        },
+    };
+    segment(rt, timed.walk(&[0, 1, 1, 1, 1, 1, 0, 1], &mut [0; 17], x))
 }
 
 fn main(rt: HostRuntime) -> io::Result<()> {

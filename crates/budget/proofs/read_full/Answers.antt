@@ -1,19 +1,17 @@
 -- What a read gives comes right behind what is read so far.
-use Rattle.std.proofs.Common.{◌≡◌, ℕ, ◌+◌, ◌-◌, ◌≤◌, List, ◌++◌, rules, length, take, sym, ap, ◌∙◌, subst, le_refl, length-take-le, drop_at}
+use Rattle.std.proofs.Common.{◌≡◌, ℕ, ◌+◌, ◌-◌, ◌≤◌, List, ◌++◌, rules, length, take, refl, subst, le_refl, length-take-le, drop_at}
+use Rattle.std.proofs.Math.Seq.{take-add}
+use Rattle.std.proofs.lemmas.List.{take-append-le}
 use Rattle.std.proofs.lemmas.Slice.{take-put_mid_below}
 use Rattle.std.specs.Io.KnownBytes.{Consumes}
 use Rattle.std.proofs.KnownBytes.{Consumes-trans}
 use borrow.Rule.Slice.PartMut.{put_mid, post_of}
-use lib.Seq.{take-add, take-append-le}
 use Rattle.budget.proofs.read_full.Goals as goal
 
 -- the first a + n of a list whose middle part, from a on, is ys
 take_through : (a k n : ℕ) (xs ys : List ℕ) → a ≤ length xs → n ≤ length ys → take a xs ++ take n ys ≡ take (a + n) (put_mid a k xs ys)
 take_through a k n xs ys within fits =
-    let after = post_of a k xs in
-    let front = take-put_mid_below a k xs ys a (le_refl a) within in
-    let rest = drop_at (take a xs) (ys ++ after) a (length-take-le a xs within) in
-    sym (take-add a n (put_mid a k xs ys) ∙ ap (λ l. take a (put_mid a k xs ys) ++ take n l) rest ∙ ap (λ l. take a (put_mid a k xs ys) ++ l) (take-append-le n ys after fits) ∙ ap (λ l. l ++ take n ys) front)
+    rw (take-add a n (put_mid a k xs ys), take-put_mid_below a k xs ys a (le_refl a) within, drop_at (take a xs) (ys ++ post_of a k xs) a (length-take-le a xs within), take-append-le n ys (post_of a k xs) fits) refl
 
 pub loop-done-preserved : goal.loop-done-preserved
 loop-done-preserved g c =

@@ -1,18 +1,13 @@
 -- A budget's result has its summary, and is no longer than the buffer.
-use Rattle.std.proofs.Common.{◌∙◌, arith, length-take-le, sym}
-use Rattle.hozbantir.proofs.BudgetLaws.{budget_part}
+use Rattle.std.proofs.Common.{arith, length-take-le, sym}
+use Rattle.hozbantir.proofs.BudgetLaws.{budget_counts}
 use Rattle.budget.proofs.show_mode.Goals as goal
 
 pub slice_bounds-listing-end : goal.slice_bounds-listing-end
-slice_bounds-listing-end g c =
-    let part = budget_part _ _ c.budget-a.ensures (sym c.number.ensures ∙ c.if-number-ne0.false) in
-    omega (arith, c.place.ensures, part.1, c.budget-a.auto.res)
+slice_bounds-listing-end g c = let part = budget_counts _ _ c.in-Ok.ensures in omega (arith, part.1, c.budget.auto.res)
 
-pub slice_bounds-listing-end-2 : goal.slice_bounds-listing-end-2
-slice_bounds-listing-end-2 g c = sym (length-take-le _ _ (slice_bounds-listing-end g c))
+pub slice_bounds-listing-end-in-Ok : goal.slice_bounds-listing-end-in-Ok
+slice_bounds-listing-end-in-Ok g c = sym (length-take-le _ _ (slice_bounds-listing-end g c))
 
 pub listing-requires : goal.listing-requires
-listing-requires g c =
-    let part = budget_part _ _ c.budget-a.ensures (sym c.number.ensures ∙ c.if-number-ne0.false) in
-    let within = slice_bounds-listing-end g c in
-    omega (arith, c.place.ensures, part.0, length-take-le _ _ within)
+listing-requires g c = let part = budget_counts _ _ c.in-Ok.ensures in omega (arith, part.0, slice_bounds-listing-end-in-Ok g c)

@@ -1,15 +1,13 @@
-use Rattle.std.proofs.Common.{sym, ◌∙◌, arith}
-use Rattle.circuit.proofs.SeekLaws.{seeking_next, seeking_found, seeking_none}
+use Rattle.std.specs.Prelude.{◌≡◌, true, false}
+use Rattle.std.proofs.Common.{rules, tests}
+use Rattle.std.proofs.lemmas.Iterator.{first_from_Range}
+use Rattle.circuit.specs.Kinds.{byte_of}
+use Rattle.circuit.proofs.SeekLaws.{below_found}
 use Rattle.netlists.specs.Ends.{fault_at}
 use Rattle.netlists.proofs.lowest_fault.Goals as goal
 
-pub returns-then-is_fault : goal.returns-then-is_fault
-unfolding fault_at
-returns-then-is_fault c = seeking_found c.loop-x.invariant (omega arith) (sym c.is_fault.ensures ∙ c.if-is_fault.true)
-
-pub loop-x-preserved : goal.loop-x-preserved
-unfolding fault_at
-loop-x-preserved c = seeking_next c.loop-x.invariant (omega arith) (sym c.is_fault.ensures ∙ c.if-is_fault.false)
-
 pub returns : goal.returns
-returns c = let s = c.loop-x.invariant in omega (arith, s.within, seeking_none s (omega arith))
+unfolding fault_at
+returns c =
+    let f = fault_at c.args.kinds.now c.args.met.now (byte_of c.args.k) in
+    below_found f _ _ (first_from_Range _ _ _ _ (λ x. f x ≡ true) (λ x. f x ≡ false) c.find.ensures.ran (λ x q k. search (rules, tests)) (λ x q k. search (rules, tests)))

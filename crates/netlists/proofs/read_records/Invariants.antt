@@ -1,9 +1,6 @@
-use Rattle.netlists.specs.Held.{arrays}
+use Rattle.std.proofs.Common.{length, ◌-◌}
 use Rattle.netlists.specs.ReadLaws.{Reading}
 use Rattle.netlists.proofs.read_records.Given as goal
 
-abbrev pub invariant-loop-left : goal.invariant-loop-left
-invariant-loop-left l = Reading l.s l.left l.st (arrays l.kinds l.bases l.times l.from l.to)
-
-abbrev pub decreases-loop-left : goal.decreases-loop-left
-decreases-loop-left l = l.left
+abbrev pub invariant-loop : goal.invariant-loop
+invariant-loop l = Reading l.s (length l.s - l.counter) l.st l.decoded

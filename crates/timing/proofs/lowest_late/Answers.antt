@@ -1,15 +1,11 @@
-use Rattle.std.proofs.Common.{sym, ◌∙◌}
-use Rattle.circuit.proofs.SeekLaws.{seeking_found, seeking_next, seeking_none, seeking_starts}
+use Rattle.std.specs.Prelude.{◌≡◌, true, false}
+use Rattle.std.proofs.Common.{rules, tests}
+use Rattle.std.proofs.lemmas.Iterator.{first_from_Range}
+use Rattle.circuit.specs.Times.{late}
+use Rattle.circuit.proofs.SeekLaws.{below_found}
 use Rattle.timing.proofs.lowest_late.Goals as goal
 
-pub loop-x-init : goal.loop-x-init
-loop-x-init c = seeking_starts
-
-pub loop-x-preserved : goal.loop-x-preserved
-loop-x-preserved c = seeking_next c.loop-x.invariant c.loop-x-test.true (sym c.late_at.ensures ∙ c.if-late_at.false)
-
-pub returns-then-late_at : goal.returns-then-late_at
-returns-then-late_at c = seeking_found c.loop-x.invariant c.loop-x-test.true (sym c.late_at.ensures ∙ c.if-late_at.true)
-
 pub returns : goal.returns
-returns c = seeking_none c.loop-x.invariant c.loop-x-test.false
+returns c =
+    let f = late c.args.kinds.now c.args.times.arrivals.now c.args.times.required.now in
+    below_found f _ _ (first_from_Range _ _ _ _ (λ x. f x ≡ true) (λ x. f x ≡ false) c.find.ensures.ran (λ x q k. search (rules, tests)) (λ x q k. search (rules, tests)))

@@ -1,24 +1,20 @@
+use Rattle.std.proofs.lemmas.Result.{err_from_is_err_and}
+use Rattle.std.proofs.Common.{rules, pos, of_z}
+use Rattle.std.specs.Int.{w32}
+use Rattle.hozbantir.specs.Slacks.{slacks_by}
+use Rattle.hozbantir.specs.Spreading.{puts_laid}
+use Rattle.hozbantir.proofs.SlacksLaws.{length-by, slack_by}
 use Rattle.hozbantir.proofs.SendLaws.{sent_short, sent_done}
-use lib.Seq.{length-take-le}
-use mathlib.Core.Path.{sym}
-use mir.Syntax.{w32}
-use mir.Val.{of_z}
-use native.Mathlib.Omega.{arith}
 use Rattle.hozbantir.proofs.exports.slacks_into.Goals as goal
 
-pub returns-then-room_of-n : goal.returns-then-room_of-n
-returns-then-room_of-n c = sent_short (of_z w32) _ (rw c.room_of.ensures at c.if-room_of-n.true)
-
-pub slice_bounds-put_slacks-end : goal.slice_bounds-put_slacks-end
-slice_bounds-put_slacks-end c = let a = c.args in sym (length-take-le a.n a.arr.now c.requires.arrs_all)
-
-pub slice_bounds-put_slacks-end-2 : goal.slice_bounds-put_slacks-end-2
-slice_bounds-put_slacks-end-2 c = let a = c.args in sym (length-take-le a.n a.req.now c.requires.reqs_all)
-
-pub put_slacks-requires : goal.put_slacks-requires
-put_slacks-requires c = let a = c.args in
-    let p = c.requires in
-    (p.gauged, p.narrow, rw (length-take-le a.n a.arr.now p.arrs_all) (omega (arith, c.room_of.ensures, c.if-room_of-n.false)))
+pub returns-in_err-check_room : goal.returns-in_err-check_room
+returns-in_err-check_room c =
+    let p = err_from_is_err_and c.from_residual.result c.from_residual.ensures.1 in
+    let q = c.in_err-check_room.ensures.short in
+    rw (p.1, p.2, q.1) (sent_short (of_z w32) _ (rw c.room_of.ensures at q.0))
 
 pub returns : goal.returns
-returns c = sent_done (of_z w32) _ (rw c.room_of.ensures at c.if-room_of-n.false) c.put_slacks.ensures
+returns c =
+    let t = c.args.times in
+    sent_done (of_z w32) _ (rw c.room_of.ensures at c.in_ok-check_room.ensures.fits)
+    (puts_laid (of_z w32) (pos 0) (slacks_by t.arrivals.now t.required.now) c.put_numbers.ensures (length-by t.arrivals.now t.required.now) (λ i x h p. rw (← slack_by t.arrivals.now t.required.now i h) (search rules)))

@@ -1,11 +1,21 @@
-use Rattle.rounds.specs.Round.{loaded, round_no, round_yes}
+use Rattle.timing.specs.Bounds.{times_gauged}
+use Rattle.rounds.specs.Round.{choosable, laid, spendable, round_no, round_yes}
 use Rattle.rounds.proofs.turns.round.Goals as goal
 
-pub spend_at-requires-clause-loaded : goal.spend_at-requires-clause-loaded
-spend_at-requires-clause-loaded c = loaded c.requires.steady c.requires.desk.marks_all c.choose_in-x.ensures
+pub invariant_of-times : goal.invariant_of-times
+invariant_of-times c = let t = c.times_at.ensures in record { gauged = rw (t.arrivals, t.required) (times_gauged c.requires.steady.ready) }
 
-pub returns-then-x-kinds : goal.returns-then-x-kinds
-returns-then-x-kinds c = round_yes c.choose_in-x.ensures c.if-x-kinds.true c.spend_at.ensures
+pub choose-requires : goal.choose-requires
+choose-requires c = let t = c.times_at.ensures in choosable _ c.requires.steady c.requires.marks (t.arrivals, t.required)
 
-pub returns-else-x-kinds : goal.returns-else-x-kinds
-returns-else-x-kinds c = round_no c.choose_in-x.ensures c.if-x-kinds.false
+pub spend_at-requires-clause-laid : goal.spend_at-requires-clause-laid
+spend_at-requires-clause-laid c = let t = c.times_at.ensures in laid _ c.requires.steady c.requires.marks (t.arrivals, t.required)
+
+pub spend_at-requires-clause-x_in_bounds : goal.spend_at-requires-clause-x_in_bounds
+spend_at-requires-clause-x_in_bounds c = let t = c.times_at.ensures in spendable _ c.requires.steady c.requires.marks (t.arrivals, t.required) c.in-Some.ensures c.args.work.now.sized.room_all
+
+pub returns-clause-rounded : goal.returns-clause-rounded
+returns-clause-rounded c = let t = c.times_at.ensures in round_yes _ c.requires.steady c.requires.marks (t.arrivals, t.required) c.in-Some.ensures c.spend_at.ensures
+
+pub returns-in_default-clause-rounded : goal.returns-in_default-clause-rounded
+returns-in_default-clause-rounded c = let t = c.times_at.ensures in round_no _ c.requires.steady c.requires.marks (t.arrivals, t.required) c.in_default.ensures

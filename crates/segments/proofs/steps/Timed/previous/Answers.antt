@@ -1,0 +1,6 @@
+use Rattle.std.proofs.Common.{rules, tests, refl}
+use Rattle.segments.proofs.Firsts.{before_found, range_found}
+use Rattle.segments.proofs.steps.Timed.previous.Goals as goal
+
+pub returns : goal.returns
+returns c = before_found c.args.self.laid _ _ _ (range_found _ _ _ refl c.find.ensures.ran (λ x b q k. search (rules, tests))) (search rules)
