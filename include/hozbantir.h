@@ -184,7 +184,7 @@ extern "C" {
 #endif
 
 /* The number of the landing (docs/landings) is the minor part. */
-#define HOZBANTIR_VERSION "0.5"
+#define HOZBANTIR_VERSION "0.6"
 
 /* The two parts of an answer. */
 #define HOZBANTIR_NUMBER(answer) ((uint32_t)((uint64_t)(answer) >> 32))

@@ -1,6 +1,7 @@
 -- What is known of a netlist that the reader took.
-use Rattle.std.specs.Prelude.{◌≡◌, List, ℕ, ℤ, length, Ok}
-use Rattle.std.proofs.Common.{sym, ◌∙◌}
+use Rattle.std.specs.Prelude.{◌≡◌, List, ℕ, ◌≤◌, ℤ, length, take, Ok}
+use Rattle.std.proofs.Common.{sym, ◌∙◌, arith}
+use Rattle.std.proofs.lemmas.List.{length-take}
 use Rattle.circuit.specs.Netlist.{Netlist, served_of}
 use Rattle.circuit.proofs.TimesLaws.{rising_order}
 use Rattle.rounds.specs.Budgets.{Given}
@@ -29,6 +30,10 @@ pub taken_count : (s : List ℕ) {n : ℕ} → taken_of s ≡ Ok n → taken_of 
 unfolding taken_of
 taken_count s e = e ∙ sym (verdict_good (judge_of s) (Ok (length (board_of s).kinds)) e).1
 
+-- a list with a front as long as asked is no shorter
+reaches : {A : Type 0} (k : ℕ) (l : List A) → length (take k l) ≡ k → k ≤ length l
+reaches k l e = omega (arith, e, length-take k l)
+
 pub good_filled : {s : List ℕ} {e : Extent} {a : Decoded} → Judges s (Ok e) a → Filled e a
 good_filled {s} {e} {a} j =
     let l = loaded j in
@@ -37,4 +42,9 @@ good_filled {s} {e} {a} j =
       few = l.parts_few;
       fewer = l.wires_few;
       parts_are = l.parts_are;
+      kinds_all = reaches _ _ l.parts_are;
+      bases_all = reaches _ _ (l.based.all ∙ l.parts_are);
+      times_all = reaches _ _ (l.judged.times_all ∙ l.parts_are);
+      froms_all = reaches _ _ l.wires_are;
+      tos_all = reaches _ _ (l.judged.wired.paired ∙ l.wires_are);
     }

@@ -13,7 +13,7 @@ Answer = Result ℕ Refusal
 
 -- ---- numbers and places
 
--- the refusals' numbers; 9 is not given
+-- "No. | Name"; 9 is not given
 abbrev pub number_for : Refusal → ℕ
 number_for R.Mode = 1
 number_for (R.Netlist f) = number_in f
@@ -21,7 +21,7 @@ number_for (R.Late x) = 8
 number_for (R.Room n) = 10
 number_for (R.Result m) = 11
 
--- and their places
+-- "Place"
 abbrev pub place_for : Refusal → ℕ
 place_for R.Mode = 0
 place_for (R.Netlist f) = place_in f
@@ -29,7 +29,7 @@ place_for (R.Late x) = x
 place_for (R.Room n) = n
 place_for (R.Result a) = a
 
--- success has number 0, and as its place how many numbers or bytes were written
+-- "Success returns 0 and, as place, how many numbers or bytes it wrote"
 abbrev pub number_of : Answer → ℕ
 number_of (Ok n) = 0
 number_of (Err r) = number_for r
@@ -74,7 +74,7 @@ abbrev pub on_verdict : Verdict → Answer → Answer
 on_verdict (Ok e) a = a
 on_verdict (Err f) a = Err (R.Netlist f)
 
--- RESULT, placed where the first record unlike the one due begins; where the result is taken, what comes next
+-- RESULT: "the result breaks the rules below", "record's offset"; where the result is taken, what comes next
 abbrev pub on_told : Result Summary Misfit → Answer → Answer
 on_told (Ok t) a = a
 on_told (Err m) a = Err (R.Result m.0)

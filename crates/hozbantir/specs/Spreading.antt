@@ -1,10 +1,10 @@
 -- How the exports meet what they send: numbers put one after the other into bytes, and the answer as one number.
 use Rattle.std.specs.Prelude.{◌≡◌, refl, List, [], ◌∷◌, ◌++◌, ℕ, suc, ◌+◌, ◌*◌, ◌<◌, ◌≤◌, length, get_or, take, drop}
-use Rattle.std.proofs.Common.{sym, ◌∙◌, map, arith, add-one, length-append, append_assoc, append-nil, take-suc, take_all}
+use Rattle.std.proofs.Common.{sym, ◌∙◌, ap, map, arith, add-one, length-append, length-take-le, append_assoc, append-nil, take-suc, take_all}
 use Rattle.whole.specs.Bytes.{bytes_of, put_at, length-bytes}
 use Rattle.std.proofs.Math.Decide.{ℕ_discrete}
 use Rattle.std.proofs.Math.ListN.{get_or-append}
-use Rattle.std.proofs.lemmas.List.{get_or_at, get_or-map, length-map}
+use Rattle.std.proofs.lemmas.List.{get_or_at, get_or-map, get_or-take, length-map}
 use Rattle.std.proofs.lemmas.Grind.{same_number_lists}
 use Rattle.results.specs.Writing.{Begun, begun_none, begun_put}
 use Rattle.hozbantir.specs.Exports.{spread}
@@ -81,9 +81,15 @@ module _ {A : Type 0} (f : A → ℕ) where
   spread-map [] = refl
   spread-map (y ∷ ys) = rw (spread-map ys)
 
+  -- the numbers that P determines by ys are spread there, so many of them as there are
+  pub puts_spread : (d : A) {P : ℕ → ℕ → Type 0} {n : ℕ} {old new : List ℕ} (ys : List A) → Puts P n old new → n ≤ length ys → ((i x : ℕ) → i < n → P i x → x ≡ f (get_or ys i d)) → Spreading f ys old n new
+  puts_spread d {n} {old} ys p fits only =
+      let front : length (take n ys) ≡ n = length-take-le n ys fits in
+      let same : p.numbers ≡ map f (take n ys) =
+      same_number_lists p.numbers (map f (take n ys)) (p.all ∙ sym front ∙ sym (length-map (take n ys) f))
+      (λ i h. let l : i < n = rw p.all at h in only i (get_or p.numbers i 0) l (p.each i l) ∙ sym (get_or-map f (take n ys) i d 0 (rw front l) ∙ ap f (get_or-take n ys i d l))) in
+      record { begun = rw (← spread-map (take n ys), ← same) p.begun }
+
+  -- and where that is all, they are laid there
   pub puts_laid : (d : A) {P : ℕ → ℕ → Type 0} {n : ℕ} {old new : List ℕ} (ys : List A) → Puts P n old new → length ys ≡ n → ((i x : ℕ) → i < n → P i x → x ≡ f (get_or ys i d)) → new ≡ laid f ys old
-  puts_laid d {n} {old} ys p e only =
-      let same : p.numbers ≡ map f ys =
-      same_number_lists p.numbers (map f ys) (p.all ∙ sym e ∙ sym (length-map ys f))
-      (λ i h. let l : i < n = rw p.all at h in only i (get_or p.numbers i 0) l (p.each i l) ∙ sym (get_or-map f ys i d 0 (rw e l))) in
-      p.begun.is ∙ rw (same, spread-map ys, e)
+  puts_laid d ys p e only = spreading_ends f (puts_spread d ys p (omega arith) only) (sym e)

@@ -19,3 +19,8 @@ pub record Filled (e : Extent) (a : Decoded) : Type 0 where
   pub few : e.components ≤ 1024
   pub fewer : e.connections ≤ 4096
   pub parts_are : length (take e.components a.kinds) ≡ e.components
+  pub kinds_all : e.components ≤ length a.kinds
+  pub bases_all : e.components ≤ length a.bases
+  pub times_all : e.components ≤ length a.times
+  pub froms_all : e.connections ≤ length a.from
+  pub tos_all : e.connections ≤ length a.to

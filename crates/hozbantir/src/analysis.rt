@@ -15,7 +15,7 @@ pub fn timed(netlist: &[u8], arr: &mut [i64; 1024], req: &mut [i64; 1024]) -> An
 {
     let mut decoded = Decoded::EMPTY;
     let mut met = [0u8; 1024];
-    let extent = netlists::read_netlist(netlist, &mut decoded, &mut met)?;
+    let extent = decoded.read(netlist, &mut met)?;
     let n = extent.components;
     timing::times_at(
         &mut arr[..n],

@@ -95,7 +95,7 @@ pub fn budget(mode: u32, netlist: &[u8], res: &mut [u8]) -> Answer
     }
     let mut decoded = Decoded::EMPTY;
     let mut served = [0u8; 1024];
-    let extent = netlists::read_netlist(netlist, &mut decoded, &mut served)?;
+    let extent = decoded.read(netlist, &mut served)?;
     let marks = &mut served[..extent.components];
     budget_on(
         mode,

@@ -11,4 +11,5 @@ pub use analysis::analyse;
 pub use answers::{Answer, Refusal, number, place};
 pub use budgeting::budget;
 pub use exports::{hozbantir_analyse, hozbantir_budget, hozbantir_read_back};
+pub use netlists::Fault;
 pub use reading::read_back;

@@ -32,7 +32,7 @@ pub fn judged(
 ) -> Answer
     ensures { Both netlist.now res.now result decoded.new.bases served.new incs.new }
 {
-    let extent = netlists::read_netlist(netlist, decoded, served)?;
+    let extent = decoded.read(netlist, served)?;
     let n = extent.components;
     judge_on(
         res,

@@ -28,6 +28,20 @@ time_in t = not (lt_z t (negsuc 99999999)) && not (lt_z (pos 100000000) t)
 
 -- ---- the arrays
 
+-- five columns as arrays
+abbrev pub arrays : (kinds : List ℕ) → (bases times : List ℤ) → (from to : List ℕ) → Decoded
+arrays ks bs tm fs ts = record { kinds = ks; bases = bs; times = tm; from = fs; to = ts }
+
+-- columns as long as the arrays are
+pub record LongParts (ks : List ℕ) (bs tm : List ℤ) : Type 0 where
+  pub ks_long : length ks ≡ 1024
+  pub bs_long : length bs ≡ 1024
+  pub tm_long : length tm ≡ 1024
+
+pub record LongWires (fs ts : List ℕ) : Type 0 where
+  pub fs_long : length fs ≡ 4096
+  pub ts_long : length ts ≡ 4096
+
 -- from the arrays e to the arrays x: component i is c, and connection j is w, behind those before them, which stay as they were
 pub record OneComponent (e x : Decoded) (i : ℕ) (c : Component) : Type 0 where
   pub kinds : take (i + 1) x.kinds ≡ take i e.kinds ++ (c.kind ∷ [])

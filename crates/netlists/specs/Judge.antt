@@ -24,7 +24,7 @@ Verdict = Result Extent Fault
 abbrev pub good : (components connections : ℕ) → Verdict
 good n m = Ok (record { components = n; connections = m })
 
--- the number of a refusal, and its place
+-- "No. | Name" of those that a netlist gives, and "Place": "offset; file length", of ENDS "lowest such component"
 abbrev pub number_in : Fault → ℕ
 number_in (Broken a) = 2
 number_in (Tag a) = 3

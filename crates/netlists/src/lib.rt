@@ -1,13 +1,13 @@
 // Netlist files: judged front to back, and decoded on the way into arrays that the caller lends.
 #![tactic(auto)]
 
-ghost use Rattle.std.specs.Prelude.{◌≡◌, not, ◌&&◌, ◌≤◌, ◌<◌, eqb, length, take};
+ghost use Rattle.std.specs.Prelude.{◌≡◌, not, ◌&&◌, ◌≤◌, ◌<◌, eqb, length, take, set, pos};
 ghost use Rattle.std.specs.Bool.{beq};
 ghost use Rattle.circuit.specs.Kinds.{byte_of};
 ghost use Rattle.circuit.specs.Lists.{tabulate, lowest, below};
 ghost use Rattle.netlists.specs.Judge.{key, fields_ok, wiring_ok, number_in, place_in, on_component, on_connection, on_record};
 ghost use Rattle.netlists.specs.Ends.{Below, mark_of, fault_at, fault_by, fault_of};
-ghost use Rattle.netlists.specs.Held.{component_of, connection_of, time_in, Front, OneComponent, OneConnection, held, Room, ended_at, Took, OneStep, Read, Judges};
+ghost use Rattle.netlists.specs.Held.{component_of, connection_of, time_in, Front, OneComponent, OneConnection, held, LongParts, LongWires, arrays, Room, ended_at, Took, OneStep, Read, Judges};
 
 use circuit::{Circuit, Kind};
 use records::{Reader, Record};
@@ -185,7 +185,8 @@ impl Decoded {
     // Component i, and connection j, behind those before them. By the clause the base delay goes into its type: `try_from` would give a `Result`.
     fn put_component(&mut self, i: usize, c: Component)
         requires { (i < 1024) × (c.base ≤ 65535) }
-        ensures { OneComponent self.old self.new i c }
+        ensures one { OneComponent self.old self.new i c }
+        ensures rest { (self.new.kinds ≡ set self.old.kinds i c.kind) × (self.new.bases ≡ set self.old.bases i (pos c.base)) × (self.new.times ≡ set self.old.times i c.time) }
     {
         self.kinds[i] = c.kind;
         self.bases[i] = c.base as i32;
@@ -194,7 +195,8 @@ impl Decoded {
 
     fn put_connection(&mut self, j: usize, w: Connection)
         requires { j < 4096 }
-        ensures { OneConnection self.old self.new j w }
+        ensures one { OneConnection self.old self.new j w }
+        ensures rest { (self.new.from ≡ set self.old.from j w.from) × (self.new.to ≡ set self.old.to j w.to) }
     {
         self.from[j] = w.from;
         self.to[j] = w.to;
@@ -205,7 +207,8 @@ impl Decoded {
 
 fn on_component(p: &[u8], st: State, next: usize, decoded: &mut Decoded) -> Result<State, Fault>
     requires { Room st decoded.old }
-    ensures { Took result decoded.old decoded.new (on_component p.now (held st decoded.old) next) }
+    ensures took { Took result decoded.old decoded.new (on_component p.now (held st decoded.old) next) }
+    ensures wires { (decoded.new.from ≡ decoded.old.from) × (decoded.new.to ≡ decoded.old.to) }
 {
     if p.len() != 9 || st.conns != 0 {
         return Err(Fault::Tag(st.at));
@@ -227,7 +230,8 @@ fn on_component(p: &[u8], st: State, next: usize, decoded: &mut Decoded) -> Resu
 
 fn on_connection(p: &[u8], st: State, next: usize, decoded: &mut Decoded) -> Result<State, Fault>
     requires { Room st decoded.old }
-    ensures { Took result decoded.old decoded.new (on_connection p.now (held st decoded.old) next) }
+    ensures took { Took result decoded.old decoded.new (on_connection p.now (held st decoded.old) next) }
+    ensures parts { (decoded.new.kinds ≡ decoded.old.kinds) × (decoded.new.bases ≡ decoded.old.bases) × (decoded.new.times ≡ decoded.old.times) }
 {
     if p.len() != 4 {
         return Err(Fault::Tag(st.at));
@@ -357,15 +361,40 @@ fn fault_of(circuit: Circuit<'_>, met: &mut [u8]) -> Option<usize>
 
 // ---- the netlist
 
-// Judges a file, and decodes a taken one: its components and connections stand at the front of the arrays. ENDS works in `met`: what it holds
-// says nothing, before or after.
-pub fn read_netlist(s: &[u8], decoded: &mut Decoded, met: &mut [u8]) -> Result<Extent, Fault>
-    requires { length met.old ≡ 1024 }
-    ensures { Judges s.now result decoded.new }
-{
-    let extent = read_records(s, decoded)?;
-    match fault_of(decoded.circuit(extent), &mut met[..extent.components]) {
-        Some(x) => Err(Fault::Ends(x)),
-        None => Ok(extent),
+impl Decoded {
+    // Judges a file, and decodes a taken one: its components and connections stand at the front of the arrays. ENDS works in `met`: what it holds
+    // says nothing, before or after.
+    pub fn read(&mut self, s: &[u8], met: &mut [u8]) -> Result<Extent, Fault>
+        requires { length met.old ≡ 1024 }
+        ensures { Judges s.now result self.new }
+    {
+        let extent = read_records(s, self)?;
+        match fault_of(self.circuit(extent), &mut met[..extent.components]) {
+            Some(x) => Err(Fault::Ends(x)),
+            None => Ok(extent),
+        }
     }
+}
+
+// The same into columns that need not stand in one value. They are filled where the netlist is taken, and stay as they were where it is not.
+pub fn read_netlist(
+    s: &[u8],
+    kinds: &mut [u8],
+    bases: &mut [i32],
+    times: &mut [i32],
+    from: &mut [u16],
+    to: &mut [u16],
+    met: &mut [u8],
+) -> Result<Extent, Fault>
+    requires { LongParts kinds.old bases.old times.old × LongWires from.old to.old × (length met.old ≡ 1024) }
+    ensures { Judges s.now result (arrays kinds.new bases.new times.new from.new to.new) }
+{
+    let mut decoded = Decoded::EMPTY;
+    let extent = decoded.read(s, met)?;
+    kinds.copy_from_slice(&decoded.kinds);
+    bases.copy_from_slice(&decoded.bases);
+    times.copy_from_slice(&decoded.times);
+    from.copy_from_slice(&decoded.from);
+    to.copy_from_slice(&decoded.to);
+    Ok(extent)
 }

@@ -2,15 +2,16 @@
 // What each line has to be is in the file stdout, written from the rules of the two formats.
 #![tactic(auto)]
 
+mod file;
 mod judgement;
 mod part;
 mod start;
 
+use file::File;
 use part::Part;
 use part::Part::{Bound, Byte, Component, Connection, Head, Summary};
 use start::Netlist::{CircuitA, Crossed, Paired, TooManyComponents, TooManyConnections};
 use start::{ResultA, Start};
-use std::alloc::AllocGlobal;
 use std::io;
 
 // ---- a case
@@ -39,30 +40,27 @@ fn over(name: &str, at: u16, part: Part, len: u16) -> Case<'_> {
     }
 }
 
-fn judge<S: Start>(rt: &(impl Print + AllocGlobal), start: &S, case: &Case<'_>) -> io::Result<()> {
-    let mut file = Vec::new(rt.alloc());
-    start.build(&mut file)?;
+fn judge<S: Start>(rt: &impl Print, file: &mut File, start: &S, case: &Case<'_>) -> io::Result<()> {
+    file.resize(0);
+    start.build(file);
     if let Some((at, part)) = case.change {
-        part.write_over(&mut file, at)?;
+        part.write_over(file, at);
     }
-    file.resize(usize::from(case.len), 0)?;
-    println!(rt; "{}: {}", case.name, S::judge(&file))
+    file.resize(usize::from(case.len));
+    println!(rt; "{}: {}", case.name, S::judge(file.bytes()))
 }
 
-fn judge_all<S: Start>(
-    rt: &(impl Print + AllocGlobal),
-    start: &S,
-    cases: &[Case<'_>],
-) -> io::Result<()> {
+fn judge_all<S: Start>(rt: &impl Print, start: &S, cases: &[Case<'_>]) -> io::Result<()> {
+    let mut file = File::EMPTY;
     for case in cases {
-        judge(rt, start, case)?;
+        judge(rt, &mut file, start, case)?;
     }
     Ok(())
 }
 
 // ---- the cases
 
-fn taken(rt: &(impl Print + AllocGlobal)) -> io::Result<()> {
+fn taken(rt: &impl Print) -> io::Result<()> {
     let cases = [
         cut("circuit A", 69),
         over("base 0", 24, Component(1, 0, 0), 69),
@@ -80,7 +78,7 @@ fn taken(rt: &(impl Print + AllocGlobal)) -> io::Result<()> {
     judge_all(rt, &CircuitA, &cases)
 }
 
-fn broken(rt: &(impl Print + AllocGlobal)) -> io::Result<()> {
+fn broken(rt: &impl Print) -> io::Result<()> {
     let cases = [
         cut("one byte", 1),
         cut("two bytes", 2),
@@ -99,7 +97,7 @@ fn broken(rt: &(impl Print + AllocGlobal)) -> io::Result<()> {
     judge_all(rt, &CircuitA, &cases)
 }
 
-fn tag(rt: &(impl Print + AllocGlobal)) -> io::Result<()> {
+fn tag(rt: &impl Print) -> io::Result<()> {
     let cases = [
         cut("zeros over", 72),
         over("first tag 0", 0, Byte(0), 69),
@@ -113,7 +111,7 @@ fn tag(rt: &(impl Print + AllocGlobal)) -> io::Result<()> {
     judge_all(rt, &CircuitA, &cases)
 }
 
-fn length_wrong(rt: &(impl Print + AllocGlobal)) -> io::Result<()> {
+fn length_wrong(rt: &impl Print) -> io::Result<()> {
     let cases = [
         over("component of 0", 0, Head(1, 0), 3),
         over("component of 8", 0, Head(1, 8), 11),
@@ -128,7 +126,7 @@ fn length_wrong(rt: &(impl Print + AllocGlobal)) -> io::Result<()> {
 }
 
 // A component after a connection.
-fn late(rt: &(impl Print + AllocGlobal)) -> io::Result<()> {
+fn late(rt: &impl Print) -> io::Result<()> {
     let cases = [
         over("component amid connections", 55, Component(0, 0, 0), 69),
         over("component last", 69, Component(0, 0, 0), 81),
@@ -139,7 +137,7 @@ fn late(rt: &(impl Print + AllocGlobal)) -> io::Result<()> {
     judge_all(rt, &CircuitA, &cases)
 }
 
-fn field(rt: &(impl Print + AllocGlobal)) -> io::Result<()> {
+fn field(rt: &impl Print) -> io::Result<()> {
     let cases = [
         over("first kind 3", 0, Component(3, 0, 0), 69),
         over("middle kind 3", 24, Component(3, 3, 0), 69),
@@ -157,7 +155,7 @@ fn field(rt: &(impl Print + AllocGlobal)) -> io::Result<()> {
     judge_all(rt, &CircuitA, &cases)
 }
 
-fn field_time(rt: &(impl Print + AllocGlobal)) -> io::Result<()> {
+fn field_time(rt: &impl Print) -> io::Result<()> {
     let cases = [
         over("arrival 100000001", 0, Component(0, 0, 100000001), 69),
         over("arrival -100000001", 0, Component(0, 0, -100000001), 69),
@@ -171,7 +169,7 @@ fn field_time(rt: &(impl Print + AllocGlobal)) -> io::Result<()> {
     judge_all(rt, &CircuitA, &cases)
 }
 
-fn wiring(rt: &(impl Print + AllocGlobal)) -> io::Result<()> {
+fn wiring(rt: &impl Print) -> io::Result<()> {
     let cases = [
         over("connection before components", 0, Connection(0, 1), 69),
         over("connection amid components", 24, Connection(0, 2), 69),
@@ -189,7 +187,7 @@ fn wiring(rt: &(impl Print + AllocGlobal)) -> io::Result<()> {
     judge_all(rt, &CircuitA, &cases)
 }
 
-fn ends(rt: &(impl Print + AllocGlobal)) -> io::Result<()> {
+fn ends(rt: &impl Print) -> io::Result<()> {
     let cases = [
         over("input with fan-in", 24, Component(0, 0, 0), 69),
         over("output with fan-out", 24, Component(2, 3, 0), 69),
@@ -200,12 +198,12 @@ fn ends(rt: &(impl Print + AllocGlobal)) -> io::Result<()> {
         cut("one component", 12),
     ];
     judge_all(rt, &CircuitA, &cases)?;
-    judge(rt, &Crossed(65), &cut("output without fan-in", 30220))
+    judge_all(rt, &Crossed(65), &[cut("output without fan-in", 30220)])
 }
 
-fn components_size(rt: &(impl Print + AllocGlobal)) -> io::Result<()> {
-    judge(rt, &CircuitA, &cut("empty netlist", 0))?;
-    judge(rt, &Paired, &cut("1024 components", 15872))?;
+fn components_size(rt: &impl Print) -> io::Result<()> {
+    judge_all(rt, &CircuitA, &[cut("empty netlist", 0)])?;
+    judge_all(rt, &Paired, &[cut("1024 components", 15872)])?;
     let cases = [
         cut("1025 components", 12300),
         over(
@@ -220,8 +218,8 @@ fn components_size(rt: &(impl Print + AllocGlobal)) -> io::Result<()> {
     judge_all(rt, &TooManyComponents, &cases)
 }
 
-fn connections_size(rt: &(impl Print + AllocGlobal)) -> io::Result<()> {
-    judge(rt, &Crossed(64), &cut("4096 connections", 30208))?;
+fn connections_size(rt: &impl Print) -> io::Result<()> {
+    judge_all(rt, &Crossed(64), &[cut("4096 connections", 30208)])?;
     let cases = [
         cut("4097 connections", 30227),
         over("4097th with bad numbers", 30220, Connection(9, 9), 30227),
@@ -232,7 +230,7 @@ fn connections_size(rt: &(impl Print + AllocGlobal)) -> io::Result<()> {
     judge_all(rt, &TooManyConnections, &cases)
 }
 
-fn result_taken(rt: &(impl Print + AllocGlobal)) -> io::Result<()> {
+fn result_taken(rt: &impl Print) -> io::Result<()> {
     let cases = [
         cut("result A", 36),
         over("rounds 0", 0, Summary(0, 0, 0), 36),
@@ -244,7 +242,7 @@ fn result_taken(rt: &(impl Print + AllocGlobal)) -> io::Result<()> {
     judge_all(rt, &ResultA, &cases)
 }
 
-fn result_broken(rt: &(impl Print + AllocGlobal)) -> io::Result<()> {
+fn result_broken(rt: &impl Print) -> io::Result<()> {
     let cases = [
         cut("two bytes of result", 2),
         cut("summary cut", 9),
@@ -258,7 +256,7 @@ fn result_broken(rt: &(impl Print + AllocGlobal)) -> io::Result<()> {
     judge_all(rt, &ResultA, &cases)
 }
 
-fn result_missing(rt: &(impl Print + AllocGlobal)) -> io::Result<()> {
+fn result_missing(rt: &impl Print) -> io::Result<()> {
     let cases = [
         cut("empty result", 0),
         cut("bounds missing", 10),
@@ -269,7 +267,7 @@ fn result_missing(rt: &(impl Print + AllocGlobal)) -> io::Result<()> {
     judge_all(rt, &ResultA, &cases)
 }
 
-fn result_records(rt: &(impl Print + AllocGlobal)) -> io::Result<()> {
+fn result_records(rt: &impl Print) -> io::Result<()> {
     let cases = [
         over("summary of tag 17", 0, Byte(17), 36),
         over("summary of tag 1", 0, Byte(1), 36),
@@ -286,7 +284,7 @@ fn result_records(rt: &(impl Print + AllocGlobal)) -> io::Result<()> {
     judge_all(rt, &ResultA, &cases)
 }
 
-fn result_order(rt: &(impl Print + AllocGlobal)) -> io::Result<()> {
+fn result_order(rt: &impl Print) -> io::Result<()> {
     let cases = [
         over("last bound first", 10, Bound(3, 2, 13), 36),
         over("first bound again", 23, Bound(2, 3, 2), 36),
@@ -297,7 +295,7 @@ fn result_order(rt: &(impl Print + AllocGlobal)) -> io::Result<()> {
     judge_all(rt, &ResultA, &cases)
 }
 
-fn result_fields(rt: &(impl Print + AllocGlobal)) -> io::Result<()> {
+fn result_fields(rt: &impl Print) -> io::Result<()> {
     let cases = [
         over("mode 2", 0, Summary(2, 0, 2), 36),
         over("mode 255", 0, Summary(255, 0, 2), 36),

@@ -1,6 +1,6 @@
 // The parts of which netlist and result files are made.
 
-use std::alloc::AllocError;
+use crate::file::File;
 
 // What is added to a file, or written over what stands there: a byte, a record's head (tag and length) before contents as they stand, or a
 // whole record with its fields, in the order that they have in a file.
@@ -14,62 +14,53 @@ pub(crate) enum Part {
     Bound(u16, u32, u32),
 }
 
-fn append_head(file: &mut Vec<u8>, tag: u8, len: u16) -> Result<(), AllocError> {
-    file.push(tag)?;
-    file.extend_from_slice(&len.to_be_bytes())
+fn append_head(file: &mut File, tag: u8, len: u16) {
+    file.append(&[tag]);
+    file.append(&len.to_be_bytes());
 }
 
 impl Part {
-    pub(crate) fn append_to(self, file: &mut Vec<u8>) -> Result<(), AllocError> {
+    // Components and connections come by the thousand: each is appended in one piece.
+    pub(crate) fn append_to(self, file: &mut File) {
         match self {
-            Part::Byte(x) => {
-                file.push(x)?;
-                Ok(())
-            }
+            Part::Byte(x) => file.append(&[x]),
             Part::Head(tag, len) => append_head(file, tag, len),
             Part::Component(kind, base, time) => {
-                append_head(file, 1, 9)?;
-                file.push(kind)?;
-                file.extend_from_slice(&base.to_be_bytes())?;
-                file.extend_from_slice(&time.to_be_bytes())
+                let (b, t) = (base.to_be_bytes(), time.to_be_bytes());
+                file.append(&[
+                    1, 0, 9, kind, b[0], b[1], b[2], b[3], t[0], t[1], t[2], t[3],
+                ]);
             }
             Part::Connection(from, to) => {
-                append_head(file, 2, 4)?;
-                file.extend_from_slice(&from.to_be_bytes())?;
-                file.extend_from_slice(&to.to_be_bytes())
+                let (f, t) = (from.to_be_bytes(), to.to_be_bytes());
+                file.append(&[2, 0, 4, f[0], f[1], t[0], t[1]]);
             }
             Part::Summary(mode, share, rounds) => {
-                append_head(file, 16, 7)?;
-                file.push(mode)?;
-                file.extend_from_slice(&share.to_be_bytes())?;
-                file.extend_from_slice(&rounds.to_be_bytes())
+                append_head(file, 16, 7);
+                file.append(&[mode]);
+                file.append(&share.to_be_bytes());
+                file.append(&rounds.to_be_bytes());
             }
             Part::Bound(component, base, increment) => {
-                append_head(file, 17, 10)?;
-                file.extend_from_slice(&component.to_be_bytes())?;
-                file.extend_from_slice(&base.to_be_bytes())?;
-                file.extend_from_slice(&increment.to_be_bytes())
+                append_head(file, 17, 10);
+                file.append(&component.to_be_bytes());
+                file.append(&base.to_be_bytes());
+                file.append(&increment.to_be_bytes());
             }
         }
     }
 
     // A file that ends before the part does becomes longer.
-    pub(crate) fn write_over(self, file: &mut Vec<u8>, at: u16) -> Result<(), AllocError> {
-        let mut bytes = Vec::new(*file.allocator());
-        self.append_to(&mut bytes)?;
-        let start = usize::from(at);
-        let end = start + bytes.len();
-        if file.len() < end {
-            file.resize(end, 0)?;
-        }
-        file[start..end].copy_from_slice(&bytes);
-        Ok(())
+    pub(crate) fn write_over(self, file: &mut File, at: u16) {
+        let before = file.len();
+        file.resize(usize::from(at));
+        self.append_to(file);
+        file.reach(before);
     }
 }
 
-pub(crate) fn append_all(file: &mut Vec<u8>, parts: &[Part]) -> Result<(), AllocError> {
+pub(crate) fn append_all(file: &mut File, parts: &[Part]) {
     for part in parts {
-        part.append_to(file)?;
+        part.append_to(file);
     }
-    Ok(())
 }

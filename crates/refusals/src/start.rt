@@ -1,14 +1,14 @@
 // The files that cases begin with.
 
+use crate::file::File;
 use crate::judgement::Judgement;
 use crate::part::Part::{Bound, Component, Connection, Summary};
 use crate::part::{Part, append_all};
 use netlists::Decoded;
-use std::alloc::AllocError;
 
 // A file of one of the two kinds, and how that kind is judged.
 pub trait Start {
-    fn build(&self, file: &mut Vec<u8>) -> Result<(), AllocError>;
+    fn build(&self, file: &mut File);
 
     fn judge(file: &[u8]) -> Judgement;
 }
@@ -27,42 +27,39 @@ pub(crate) enum Netlist {
     TooManyConnections,
 }
 
-fn components(file: &mut Vec<u8>, count: u16, kind: u8) -> Result<(), AllocError> {
+fn components(file: &mut File, count: u16, kind: u8) {
     for _ in 0..count {
-        Component(kind, 0, 0).append_to(file)?;
+        Component(kind, 0, 0).append_to(file);
     }
-    Ok(())
 }
 
 // Each of 512 inputs to an output of its own.
-fn pairs(file: &mut Vec<u8>) -> Result<(), AllocError> {
+fn pairs(file: &mut File) {
     for i in 0..512 {
-        Connection(i, 512 + i).append_to(file)?;
+        Connection(i, 512 + i).append_to(file);
     }
-    Ok(())
 }
 
 // Each of 64 inputs to each of 64 outputs.
-fn crossings(file: &mut Vec<u8>) -> Result<(), AllocError> {
+fn crossings(file: &mut File) {
     for i in 0..4096 {
-        Connection(i % 64, 64 + i / 64).append_to(file)?;
+        Connection(i % 64, 64 + i / 64).append_to(file);
     }
-    Ok(())
 }
 
-fn most_components(file: &mut Vec<u8>) -> Result<(), AllocError> {
-    components(file, 512, 0)?;
-    components(file, 512, 2)
+fn most_components(file: &mut File) {
+    components(file, 512, 0);
+    components(file, 512, 2);
 }
 
-fn most_connections(file: &mut Vec<u8>, outputs: u16) -> Result<(), AllocError> {
-    components(file, 64, 0)?;
-    components(file, outputs, 2)?;
-    crossings(file)
+fn most_connections(file: &mut File, outputs: u16) {
+    components(file, 64, 0);
+    components(file, outputs, 2);
+    crossings(file);
 }
 
 impl Start for Netlist {
-    fn build(&self, file: &mut Vec<u8>) -> Result<(), AllocError> {
+    fn build(&self, file: &mut File) {
         match *self {
             Netlist::CircuitA => append_all(
                 file,
@@ -77,17 +74,17 @@ impl Start for Netlist {
                 ],
             ),
             Netlist::Paired => {
-                most_components(file)?;
-                pairs(file)
+                most_components(file);
+                pairs(file);
             }
             Netlist::Crossed(outputs) => most_connections(file, outputs),
             Netlist::TooManyComponents => {
-                most_components(file)?;
-                Component(2, 0, 0).append_to(file)
+                most_components(file);
+                Component(2, 0, 0).append_to(file);
             }
             Netlist::TooManyConnections => {
-                most_connections(file, 65)?;
-                Connection(0, 128).append_to(file)
+                most_connections(file, 65);
+                Connection(0, 128).append_to(file);
             }
         }
     }
@@ -95,7 +92,7 @@ impl Start for Netlist {
     fn judge(file: &[u8]) -> Judgement {
         let mut decoded = Decoded::EMPTY;
         let mut met = [0u8; 1024];
-        Judgement::from(netlists::read_netlist(file, &mut decoded, &mut met))
+        Judgement::from(decoded.read(file, &mut met))
     }
 }
 
@@ -104,8 +101,8 @@ impl Start for Netlist {
 pub(crate) struct ResultA;
 
 impl Start for ResultA {
-    fn build(&self, file: &mut Vec<u8>) -> Result<(), AllocError> {
-        append_all(file, &[Summary(0, 0, 2), Bound(2, 3, 2), Bound(3, 2, 13)])
+    fn build(&self, file: &mut File) {
+        append_all(file, &[Summary(0, 0, 2), Bound(2, 3, 2), Bound(3, 2, 13)]);
     }
 
     fn judge(file: &[u8]) -> Judgement {

@@ -77,18 +77,18 @@ due tag len a (Err e) = misfit a
 abbrev pub summary_in : List ℕ → Summary
 summary_in p = says (get_or p 0 0) (number_at 4 p 1) (number_at 2 p 5)
 
-abbrev pub on_summary : List ℕ → (limit : ℕ) → Result Summary Misfit
-on_summary p limit = if? (is (summary_ok (summary_in p) limit)) (Ok (summary_in p)) (misfit 0)
+abbrev pub right_summary : List ℕ → (limit : ℕ) → Result Summary Misfit
+right_summary p limit = if? (is (summary_ok (summary_in p) limit)) (Ok (summary_in p)) (misfit 0)
 
 unfoldable pub summary_at : List ℕ → (limit : ℕ) → Result Summary Misfit
-summary_at s limit = and_then (due 16 7 0 (record_at s 0)) (λ r. on_summary (part_of s r.start r.len) limit)
+summary_at s limit = and_then (due 16 7 0 (record_at s 0)) (λ r. right_summary (part_of s r.start r.len) limit)
 
 -- the record of component x is due at place a, with base delay b: where the next begins, and the increment that it says, if it is right
-abbrev pub on_bound : List ℕ → (component base place next : ℕ) → Result Bound Misfit
-on_bound p x b a next = if? (is (bound_ok p x b)) (Ok (record { next = next; increment = number_at 4 p 6 })) (misfit a)
+abbrev pub right_bound : List ℕ → (component base place next : ℕ) → Result Bound Misfit
+right_bound p x b a next = if? (is (bound_ok p x b)) (Ok (record { next = next; increment = number_at 4 p 6 })) (misfit a)
 
 unfoldable pub bound_due : List ℕ → (component base place : ℕ) → Result Bound Misfit
-bound_due s x b a = and_then (due bound_tag 10 a (record_at s a)) (λ r. on_bound (part_of s r.start r.len) x b a r.next)
+bound_due s x b a = and_then (due bound_tag 10 a (record_at s a)) (λ r. right_bound (part_of s r.start r.len) x b a r.next)
 
 -- an input has no record, and no increment
 unfoldable pub step_of : List ℕ → List ℕ → List ℤ → (component place : ℕ) → Result Bound Misfit

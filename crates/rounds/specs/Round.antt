@@ -40,9 +40,21 @@ pub record Rounded (n : Netlist) (sv : List ℕ) (d d' : List ℤ) (b : Bool) : 
   pub moved : b ≡ moves n sv d
   pub after : d' ≡ cond b (round_of n sv d) d
 
+-- whether there is a component to start from, and what is spent there
+module _ {n : Netlist} (sv : List ℕ) {d a r : List ℤ} (t : (a ≡ arrivals n d) × (r ≡ requireds n d)) where
+  pub round_yes : {x : ℕ} {d' : List ℤ} → Some x ≡ below (parts n) (chosen n sv d) → d' ≡ given n.froms n.tos sv d a r x → Rounded n sv d d' true
+  unfolding moves round_of
+  round_yes {x} h e =
+      let (q, i) = below_is (parts n) (chosen n sv d) h in
+      record { moved = sym (rw (← q) (lt-ltb x (parts n) i)); after = e ∙ rw (t.0, t.1, q) refl }
+
+pub round_no : {n : Netlist} {sv : List ℕ} {d : List ℤ} → None ≡ below (parts n) (chosen n sv d) → Rounded n sv d d false
+unfolding moves
+round_no {n} {sv} {d} h = record { moved = sym (le-ltb (chosen n sv d) (parts n) (below_not (parts n) (chosen n sv d) h)); after = refl }
+
 -- the times of a round, and what the choice among them answers
 module _ {n : Netlist} (sv : List ℕ) {d a r : List ℤ} (s : Steady n d) (l : length sv ≡ parts n) (t : (a ≡ arrivals n d) × (r ≡ requireds n d)) where
-  chose : {x : Option ℕ} → x ≡ below (length sv) (choice_of sv a r (length sv)) → x ≡ below (parts n) (chosen n sv d)
+  pub chose : {x : Option ℕ} → x ≡ below (length sv) (choice_of sv a r (length sv)) → x ≡ below (parts n) (chosen n sv d)
   unfolding chosen
   chose h = h ∙ rw (t.0, t.1, l) refl
 
@@ -61,13 +73,3 @@ module _ {n : Netlist} (sv : List ℕ) {d a r : List ℤ} (s : Steady n d) (l : 
         let e = s.ready.delays_all in
         let i = (below_is (parts n) (chosen n sv d) (chose h)).1 in
         (omega arith, rw e s.few, m, rw (t.0, t.1) (s.slack x i))
-
-    pub round_yes : {d' : List ℤ} → d' ≡ given n.froms n.tos sv d a r x → Rounded n sv d d' true
-    unfolding moves round_of
-    round_yes e =
-        let (q, i) = below_is (parts n) (chosen n sv d) (chose h) in
-        record { moved = sym (rw (← q) (lt-ltb x (parts n) i)); after = e ∙ rw (t.0, t.1, q) refl }
-
-  pub round_no : None ≡ below (length sv) (choice_of sv a r (length sv)) → Rounded n sv d d false
-  unfolding moves
-  round_no h = record { moved = sym (le-ltb (chosen n sv d) (parts n) (below_not (parts n) (chosen n sv d) (chose h))); after = refl }

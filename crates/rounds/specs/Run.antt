@@ -1,5 +1,5 @@
 -- What the loop of the rounds keeps.
-use Rattle.std.specs.Prelude.{◌≡◌, Bool, true, false, List, ℕ, suc, ◌+◌, ◌<◌, ◌≤◌, ℤ}
+use Rattle.std.specs.Prelude.{◌≡◌, refl, Bool, true, false, List, ℕ, suc, ◌+◌, ◌<◌, ◌≤◌, ℤ, length}
 use Rattle.std.proofs.Common.{sym, ◌∙◌, arith}
 use Rattle.circuit.specs.Netlist.{Netlist, parts, served_of}
 use Rattle.circuit.proofs.ListLaws.{count_le}
@@ -16,12 +16,14 @@ pub record Running (n : Netlist) (d₀ d : List ℤ) (c : ℕ) : Type 0 where
   pub onward : {f : List ℤ} {e : ℕ} → Run n (served_of n.kinds) d f e → Run n (served_of n.kinds) d₀ f (c + e)
   pub few : c + positives n d ≤ parts n
   pub safe : Safe n d
+  pub same : length d ≡ length d₀
 
 pub running_starts : {n : Netlist} {d : List ℤ} → Safe n d → Running n d d 0
 running_starts {n} {d} s = record {
   onward = λ {f} {e} q. let l : 0 + e ≡ e = omega arith in rw l q;
   few = omega (arith, count_le (positive (served_of n.kinds) (arrivals n d) (requireds n d)) (parts n));
   safe = s;
+  same = refl;
 }
 
 module _ {n : Netlist} {d₀ d d' : List ℤ} {c : ℕ} {b : Bool} (q : Accepted n) (r : Running n d₀ d c) (e : Rounded n (served_of n.kinds) d d' b) where
@@ -37,10 +39,12 @@ module _ {n : Netlist} {d₀ d d' : List ℤ} {c : ℕ} {b : Bool} (q : Accepted
     running_next =
         let t = sym e.moved ∙ h in
         let i = r.few in
+        let s = round_keeps (clock q) r.safe t in
         rw (rw h at e.after) (record {
           onward = λ {f} {e = k} u. let l : c + 1 + k ≡ c + suc k = omega arith in rw l (r.onward (turn t u));
           few = omega (arith, round_falls (clock q) r.safe t);
-          safe = round_keeps (clock q) r.safe t;
+          safe = s;
+          same = s.all ∙ sym r.safe.all ∙ r.same;
         })
 
   pub running_stops : b ≡ false → Run n (served_of n.kinds) d₀ d' c

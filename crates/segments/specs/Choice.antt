@@ -25,14 +25,21 @@ module _ (sv : List ℕ) (a r : List ℤ) where
   unfolding beats positive
   beats_is x b = and_assoc (marked sv x) (lt_z (pos 0) (slack_at a r x)) (eqb b (length sv) || lt_z (slack_at a r x) (slack_at a r b))
 
-  pub choice_starts : None ≡ below (length sv) (choice_of sv a r 0)
+  pub choice_starts : choice_of sv a r 0 ≡ length sv
   unfolding choice_of
-  choice_starts = rw (le-ltb (length sv) (length sv) (omega arith))
+  choice_starts = refl
 
-  pub choice_next : {x : ℕ} {best : Option ℕ} → x < length sv → best ≡ below (length sv) (choice_of sv a r x)
-      → cond (beats sv a r x (unwrap_or best (length sv))) (Some x) best ≡ below (length sv) (choice_of sv a r (x + 1))
+  pub choice_next : (n : ℕ) → choice_of sv a r (n + 1) ≡ cond (beats sv a r n (choice_of sv a r n)) n (choice_of sv a r n)
   unfolding choice_of
-  choice_next {x} h e = rw (add-one, e, unwrap_below (length sv) (choice_of sv a r x) (choice_le sv a r x (omega arith))) (by (beats sv a r x (choice_of sv a r x)))
+  choice_next n = rw add-one
+
+  -- the same of the best so far
+  pub best_starts : None ≡ below (length sv) (choice_of sv a r 0)
+  best_starts = rw (choice_starts, le-ltb (length sv) (length sv) (omega arith))
+
+  pub best_next : {x : ℕ} {best : Option ℕ} → x < length sv → best ≡ below (length sv) (choice_of sv a r x)
+      → cond (beats sv a r x (unwrap_or best (length sv))) (Some x) best ≡ below (length sv) (choice_of sv a r (x + 1))
+  best_next {x} h e = rw (choice_next x, e, unwrap_below (length sv) (choice_of sv a r x) (choice_le sv a r x (omega arith))) (by (beats sv a r x (choice_of sv a r x)))
     where
       by : (t : Bool) → cond t (Some x) (below (length sv) (choice_of sv a r x)) ≡ below (length sv) (cond t x (choice_of sv a r x))
       by true = rw (lt-ltb x (length sv) h)

@@ -105,10 +105,14 @@ module _ {go : ℕ → ℕ} {n p₀ e : ℕ} {s₀ s : List ℕ} {p : ℕ} (o : 
   stop zero l h = refl
   stop (suc k) l h = rw (le-ltb (go (get_or s p 0)) n (below_not _ _ h))
 
-  pub backing_stops : 0 < p → None ≡ below n (go (get_or s (p - 1 + 1) 0)) → Spans s (p - 1 + 1) e (behind go n p₀ (get_or s₀ p₀ 0) (slice p₀ e s₀))
-  backing_stops l h =
+  pub backing_stops : None ≡ below n (go (get_or s p 0)) → Spans s p e (behind go n p₀ (get_or s₀ p₀ 0) (slice p₀ e s₀))
+  backing_stops h = record { order = o.order; fits = o.fits; is = sym (stop p (slice p e s) h) ∙ o.rest }
+
+  -- the same of a place said by the one before it, as the loop has it
+  pub backing_rests : 0 < p → None ≡ below n (go (get_or s (p - 1 + 1) 0)) → Spans s (p - 1 + 1) e (behind go n p₀ (get_or s₀ p₀ 0) (slice p₀ e s₀))
+  backing_rests l h =
       let q : p - 1 + 1 ≡ p = omega arith in
-      rw q (record { order = o.order; fits = o.fits; is = sym (stop p (slice p e s) (rw q at h)) ∙ o.rest })
+      rw q (backing_stops (rw q at h))
 
   pub backing_ends : p ≡ 0 → Spans s 0 e (behind go n p₀ (get_or s₀ p₀ 0) (slice p₀ e s₀))
   unfolding behind

@@ -9,3 +9,4 @@ mod walks;
 pub use choice::choose;
 pub use delivery::{deliver, spend_at};
 pub use steps::Timed;
+pub use walks::Span;

@@ -8,7 +8,13 @@ ghost use Rattle.segments.specs.Timed.{after_in, before_in, segment_in};
 ghost use Rattle.segments.specs.Walk.{Spans};
 
 use crate::steps::Timed;
-use std::ops::Range;
+
+// Where a segment stands: from start, up to end and not at it. std's `Range` would not be `Copy`.
+#[derive(Clone, Copy, Debug, PartialEq, Eq)]
+pub struct Span {
+    pub start: usize,
+    pub end: usize,
+}
 
 impl Timed<'_> {
     // On from the component at p: where the walk ends.
@@ -27,7 +33,7 @@ impl Timed<'_> {
     }
 
     // Back from the component at p, where the segment so far ends at e: where it begins.
-    #[tactic(auto, using(crate::specs::Walk::backing_stops, crate::specs::Walk::backing_ends))]
+    #[tactic(auto, using(crate::specs::Walk::backing_rests, crate::specs::Walk::backing_ends))]
     fn walk_back(self, served: &[u8], seg: &mut [u16], p: usize, e: usize) -> usize
         requires { (length served.now ≡ length self.delays.now) × (p < e) × (e ≤ length seg.old) × (length self.delays.now ≤ 1024) }
         ensures { Spans seg.new result e (behind (before_in self.entry served.now) (length self.entry.delays.now) p (get_or seg.old p 0) (slice p e seg.old)) }
@@ -43,7 +49,7 @@ impl Timed<'_> {
 
     // Where the segment of x stands in seg.
     #[tactic(auto, using(crate::specs::Walk::segment_spans))]
-    pub fn span(self, served: &[u8], seg: &mut [u16], x: usize) -> Range<usize>
+    pub fn span(self, served: &[u8], seg: &mut [u16], x: usize) -> Span
         requires { (length served.now ≡ length self.delays.now) × (x < length self.delays.now) × (length self.delays.now ≤ 1024) × (length seg.old ≡ 2 * length self.delays.now + 1) }
         ensures { Spans seg.new result.start result.end (segment_in self.entry served.now x) }
     {
@@ -51,7 +57,7 @@ impl Timed<'_> {
         seg[n] = x as u16;
         let end = self.walk_on(seg, n);
         let start = self.walk_back(served, seg, n, end);
-        start..end
+        Span { start, end }
     }
 
     // The part of seg with the segment of x.
@@ -60,7 +66,7 @@ impl Timed<'_> {
         requires { (length served.now ≡ length self.delays.now) × (x < length self.delays.now) × (length self.delays.now ≤ 1024) × (length seg.old ≡ 2 * length self.delays.now + 1) }
         ensures { result.now ≡ segment_in self.entry served.now x }
     {
-        let Range { start, end } = self.span(served, seg, x);
+        let Span { start, end } = self.span(served, seg, x);
         &seg[start..end]
     }
 }

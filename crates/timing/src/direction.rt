@@ -1,5 +1,6 @@
 // The two directions in which times go along connections.
 ghost use Rattle.std.specs.Prelude.{◌≡◌, List, ℕ, ℤ, ◌-◌, ◌<◌, ◌^◌, ◌+ℤ◌, length, get_or, reverse};
+ghost use Rattle.whole.specs.Whole.{max_z};
 ghost use Rattle.whole.specs.Range.{Within, Bounded};
 ghost use Rattle.circuit.specs.declared.kinds.Kind.{Kind};
 ghost use Rattle.circuit.specs.declared.kinds.Kind.TheVariants.{Input, Output};
@@ -65,6 +66,15 @@ fn after(time: i64, delay: i64) -> i64
     time + delay
 }
 
+// The later of a time, and of another after a delay.
+#[tactic(auto, unfolding(whole::specs::Whole::max_z))]
+fn later(x: i64, time: i64, delay: i64) -> i64
+    requires { Within (2 ^ 61) time × Within (2 ^ 29) delay }
+    ensures { result ≡ max_z x (time +ℤ delay) }
+{
+    x.max(after(time, delay))
+}
+
 // From the inputs on: a connection offers its target the time of its source and the target's delay, and the latest counts.
 pub(crate) struct Forward;
 
@@ -89,8 +99,7 @@ impl Direction for Forward {
 
     fn follow(a: &mut [i64], circuit: Circuit<'_>, d: &[i32], j: usize) {
         let (f, t) = (usize::from(circuit.from[j]), usize::from(circuit.to[j]));
-        let offered = after(a[f], i64::from(d[t]));
-        a[t] = offered.max(a[t]);
+        a[t] = later(a[t], a[f], i64::from(d[t]));
     }
 
     ghost swept = { arrivals_as_sweep };

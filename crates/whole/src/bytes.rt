@@ -87,7 +87,7 @@ impl BigEndian for u32 {
 
     fn put(self, bytes: &mut [u8], i: usize) {
         let word = self.to_be_bytes();
-        bytes[i..i + 4].copy_from_slice(&word);
+        bytes[i..i + 4].copy_from_slice(&[word[0], word[1], word[2], word[3]]);
     }
 }
 

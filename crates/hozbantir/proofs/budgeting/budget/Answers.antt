@@ -23,7 +23,7 @@ circuit-requires c = let f = good_filled c.in_ok-extent.ensures in (f.few, f.few
 pub budget_on-requires : goal.budget_on-requires
 budget_on-requires c = let f = good_filled c.in_ok-extent.ensures in
     let q = c.circuit.ensures in
-    (rw (q.kinds, q.times, q.from, q.to, c.bases.ensures) f.taken, c.if-mode-gt1.false, rw (q.kinds, f.parts_are) (length-take-le _ c.read_netlist.new.met (rw c.read_netlist.auto.met f.few)))
+    (rw (q.kinds, q.times, q.from, q.to, c.bases.ensures) f.taken, c.if-mode-gt1.false, rw (q.kinds, f.parts_are) (length-take-le _ c.read.new.met (rw c.read.auto.met f.few)))
 
 pub returns : goal.returns
 returns c =

@@ -13,7 +13,7 @@ circuit-requires c = let f = good_filled c.in_ok-extent.ensures in (f.few, f.few
 pub judge_on-requires : goal.judge_on-requires
 judge_on-requires c = let f = good_filled c.in_ok-extent.ensures in
     let k = c.circuit.ensures.kinds in (
-      rw (k, f.parts_are) (length-take-le _ c.read_netlist.new.met (rw (c.read_netlist.auto.met, c.told-served) f.few)),
+      rw (k, f.parts_are) (length-take-le _ c.read.new.met (rw (c.read.auto.met, c.told-served) f.few)),
       rw (k, f.parts_are, c.bases.ensures) (f.taken.based.all ∙ f.parts_are),
       rw (k, f.parts_are) (length-take-le _ c.args.incs.now (rw c.told-incs f.few)),
       rw (k, f.parts_are) f.few,
@@ -22,7 +22,7 @@ judge_on-requires c = let f = good_filled c.in_ok-extent.ensures in
 pub returns : goal.returns
 returns c = let f = good_filled c.in_ok-extent.ensures in
     both_heard _ c.in_ok-extent.ensures
-    (listened_front c.read_netlist.new.met c.args.incs.now
-    (c.judge_on.auto.served ∙ length-take-le _ c.read_netlist.new.met (rw (c.read_netlist.auto.met, c.told-served) f.few))
+    (listened_front c.read.new.met c.args.incs.now
+    (c.judge_on.auto.served ∙ length-take-le _ c.read.new.met (rw (c.read.auto.met, c.told-served) f.few))
     (c.judge_on.auto.incs ∙ length-take-le _ c.args.incs.now (rw c.told-incs f.few))
     (rw (c.circuit.ensures.kinds, c.bases.ensures) at c.judge_on.ensures))

@@ -1,5 +1,5 @@
 use Rattle.timing.specs.Bounds.{times_gauged}
-use Rattle.rounds.specs.Round.{choosable, laid, spendable, round_no, round_yes}
+use Rattle.rounds.specs.Round.{choosable, chose, laid, spendable, round_no, round_yes}
 use Rattle.rounds.proofs.turns.round.Goals as goal
 
 pub invariant_of-times : goal.invariant_of-times
@@ -15,7 +15,11 @@ pub spend_at-requires-clause-x_in_bounds : goal.spend_at-requires-clause-x_in_bo
 spend_at-requires-clause-x_in_bounds c = let t = c.times_at.ensures in spendable _ c.requires.steady c.requires.marks (t.arrivals, t.required) c.in-Some.ensures c.args.work.now.sized.room_all
 
 pub returns-clause-rounded : goal.returns-clause-rounded
-returns-clause-rounded c = let t = c.times_at.ensures in round_yes _ c.requires.steady c.requires.marks (t.arrivals, t.required) c.in-Some.ensures c.spend_at.ensures
+returns-clause-rounded c =
+    let t = c.times_at.ensures in
+    round_yes _ (t.arrivals, t.required) (chose _ c.requires.steady c.requires.marks (t.arrivals, t.required) c.in-Some.ensures) c.spend_at.ensures
 
 pub returns-in_default-clause-rounded : goal.returns-in_default-clause-rounded
-returns-in_default-clause-rounded c = let t = c.times_at.ensures in round_no _ c.requires.steady c.requires.marks (t.arrivals, t.required) c.in_default.ensures
+returns-in_default-clause-rounded c =
+    let t = c.times_at.ensures in
+    round_no (chose _ c.requires.steady c.requires.marks (t.arrivals, t.required) c.in_default.ensures)

@@ -1,7 +1,7 @@
 use Rattle.std.proofs.Common.{◌∙◌, sym, arith, length-take-le}
 use Rattle.std.proofs.lemmas.Result.{err_from_is_err_and}
 use Rattle.netlists.specs.JudgeLaws.{read_refused, read_few, read_fewer, read_from, read_to, read_parts, read_faulty, read_sound}
-use Rattle.netlists.proofs.read_netlist.Goals as goal
+use Rattle.netlists.proofs.Decoded.read.Goals as goal
 
 pub returns-in_err-extent : goal.returns-in_err-extent
 returns-in_err-extent c =
