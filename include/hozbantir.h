@@ -141,9 +141,10 @@
  *
  * Stack needed by each call, in bytes:
  *   analyse 49,152, budget 61,440, read back 36,864
- * Measured on a painted stack at 1,024 components and 4,096 connections: 43,287, 55,607 and 31,015.
+ * Measured on a painted stack at 1,024 components and 4,096 connections: 43,223, 55,575 and 30,967.
  * The numbers above are multiples of 4,096 which leave 4,096 bytes or more to spare. A program's
- * first call took 3,120 more where memset is bound on first use, which is within what is spared.
+ * first call took 3,152 to 3,168 more where memset is bound on first use, which is within what is
+ * spared.
  *
  *
  * EXAMPLE

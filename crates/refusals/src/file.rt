@@ -32,12 +32,13 @@ impl File {
         }
     }
 
-    // Cut to a length, or filled up with zeros.
+    // Cut to a length, or filled up with zeros as far as there is room.
     pub(crate) fn resize(&mut self, len: usize) {
-        if self.len < len && len <= ROOM {
-            self.bytes[self.len..len].fill(0);
+        let end = len.min(ROOM);
+        if self.len < end {
+            self.bytes[self.len..end].fill(0);
         }
-        self.len = len;
+        self.len = end;
     }
 
     // As long as before at least: what stood behind the part that was appended last is a part of the file again.
